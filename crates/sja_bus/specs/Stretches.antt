@@ -14,7 +14,7 @@ use Rattle.sja_wire.specs.declared.bus_fault.BusFault.TheVariants.{JournalFull}
 use Rattle.sja_wire.specs.Lawful.{IsBusRun}
 use Rattle.sja_wire.specs.Wire.{journal_at}
 use Rattle.sja_link.specs.BitEntries.{MayHaveItems}
-use Rattle.sja_wire.specs.Buses.{BusValue, EachJournal, EachBeginsWithin, KeepsAll, untold_at, IsBit}
+use Rattle.sja_wire.specs.Buses.{BusValue, EachJournal, AreOnLinks, KeepsAll, untold_at, IsBit}
 use Rattle.sja_wire.specs.Reasons.{room_for}
 use Rattle.sja_bus.specs.Resting.{RestsAs}
 
@@ -61,13 +61,13 @@ pub record IsOutOfEntries (bits : ℕ) (steps : List ℕ) (left : ℕ) (before n
   pub grown : journal_at now node ≡ journal_at before node ++ recessive_bits entered
   pub full : (room_for bits steps node).all ≤ length (journal_at now node)
 
--- of each node what came on its links was taken, and then the reserved entries of one were used. No activation began on
--- the way whose link the node's end doesn't have
-pub record IsFullInStretch {E : Type 0} (e : Ends E) (bits : ℕ) (steps : List ℕ) (left : ℕ)
+-- of each node what came on its links was taken, and then the reserved entries of one were used. No more activations of
+-- a node have begun than there are links for
+pub record IsFullInStretch {E : Type 0} (e : Ends E) (starts bits : ℕ) (steps : List ℕ) (left : ℕ)
     (before now : List (List Entry)) (links after : List E) (f : BusFault) : Type 0 where
   pub taken : List (List Entry)
   pub count : length taken ≡ length before
   pub items : EachJournal MayHaveItems before taken
   pub kept : KeepsAll e.stands before taken links after
-  pub within : EachBeginsWithin e.links before taken links
+  pub within : AreOnLinks starts taken
   pub out : IsOutOfEntries bits steps left taken now f

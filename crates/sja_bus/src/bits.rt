@@ -30,7 +30,7 @@ impl Bus {
     ghost use Rattle.std.specs.Prelude.{◌≡◌, ◌≤◌, ◌⊎◌, None, Some, Err, true, length, OnOk, IfOk};
     ghost use Rattle.std.specs.Prelude.{IfErr};
     ghost use Rattle.sja_wire.specs.declared.bus_fault.BusFault.{BusFault as Fault};
-    ghost use Rattle.sja_link.specs.Links.{AreEnds};
+    ghost use Rattle.sja_link.specs.Links.{AreEnds, HaveLinks};
     ghost use Rattle.sja_wire.specs.Buses.{IsStill};
     ghost use Rattle.sja_bus.specs.Moment.{moment, Keeps};
     ghost use Rattle.sja_bus.specs.Several.{AllRest, RunsBits, StopsBits, WorksIf};
@@ -52,6 +52,7 @@ impl Bus {
         to_rest: bool,
     ) -> Result<u32, BusFault>
         requires ends { AreEnds E.node (length self.old.journals) links.old }
+        requires links { HaveLinks E.links self.old.starts links.old }
         requires ports { length self.old.journals ≤ B.ports board.old }
         ensures keeps { Keeps E.BusEnd B.Board
             (moment self.old links.old board.old) (moment self.new links.new board.new) }
@@ -110,7 +111,7 @@ impl Bus {
         further: u32,
         to_rest: bool,
     ) -> Result<u32, BusFault>
-        requires { MayRunBits E.node self.old links.old (B.ports board.old) further }
+        requires { MayRunBits E.BusEnd self.old links.old (B.ports board.old) further }
         ensures most { IfOk result (λ n. n ≤ further) }
         ensures runs { IfOk result (λ n. IsSoFar E.BusEnd B.Board (AnyBit E.BusEnd B.Board) (WorksIf to_rest)
             (moment self.old links.old board.old) n (moment self.new links.new board.new)) }

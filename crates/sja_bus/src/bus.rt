@@ -17,13 +17,15 @@ use std::marker::Model;
 /// The shared bus of one to eight nodes (Bosch CAN 2.0 part A section 2; its links, journals and ports are this
 /// project's own rule).
 ///
-/// Contracts see it as its script, for how many steps of each driver it has room, the bits that were run and those that
-/// are left, the fault that it answers always, the journals of its nodes, and of which node something is untold to its
-/// port. All its memory is taken when it is made: no bit takes any, and a strike more alone does. So in a bus for very
-/// many bits the journals forget their oldest entries.
+/// Contracts see it as its script, for how many activations of each node there are links, for how many steps of each
+/// driver it has room, the bits that were run and those that are left, the fault that it answers always, the journals
+/// of its nodes, and of which node something is untold to its port. All its memory is taken when it is made: no bit
+/// takes any, and a strike more alone does. So in a bus for very many bits the journals forget their oldest entries.
 #[derive(Debug, Drop)]
 pub struct Bus {
     pub(crate) struck: StruckBits,
+    /// For how many activations each node's end has links.
+    starts: u64,
     /// For how many steps of each node's driver its journal has room.
     steps: Vec<u64>,
     pub(crate) run: u64,
@@ -44,6 +46,7 @@ impl Model for Bus {
 
     ghost view = { λ b. record {
       script = b.struck.script;
+      starts = b.starts;
       steps = b.steps.items;
       run = b.run;
       left = b.left;
@@ -52,7 +55,7 @@ impl Model for Bus {
       untold = untold_of b.seats.items;
     } };
 
-    ghost invariant = { λ b. IsWhole b.struck b.steps.items b.run b.left b.fault b.seats.items
+    ghost invariant = { λ b. IsWhole b.struck b.starts b.steps.items b.run b.left b.fault b.seats.items
         (vec_capacity b.logs)
         × (b.logs.items ≡ []) };
 }
@@ -63,33 +66,34 @@ impl Bus {
     ghost use Rattle.std.specs.Prelude.{true, false, length, map, slice_index_or, OnOk, OnErr, IfOk, IfErr};
     ghost use Rattle.sja_wire.specs.declared.bus_fault.BusFault.{BusFault as Fault};
     ghost use Rattle.sja_wire.specs.declared.bus_fault.BusFault.TheVariants.{BitsSpent};
-    ghost use Rattle.sja_link.specs.Links.{AreEnds};
+    ghost use Rattle.sja_link.specs.Links.{AreEnds, HaveLinks};
     ghost use Rattle.sja_link.specs.BitEntries.{MayHaveItems};
     ghost use Rattle.lemmas.specs.Related.{EachRelated};
     ghost use Rattle.sja_wire.specs.declared.node_log.NodeLog.{NodeLog as Log};
     ghost use Rattle.sja_wire.specs.Lawful.{IsBusRun, CountersAre};
-    ghost use Rattle.sja_wire.specs.Buses.{EachBeginsWithin, EachJournal, KeepsAll, AllDry};
+    ghost use Rattle.sja_wire.specs.Buses.{AreOnLinks, EachJournal, KeepsAll, AllDry};
     ghost use Rattle.sja_wire.specs.Buses.{new_bus, EachUntold, IsStill};
     ghost use Rattle.sja_wire.specs.Reasons.{IsTakenAndRefused, StopsBit};
     ghost use Rattle.sja_wire.specs.Keeping.{KeepsRecord};
     ghost use Rattle.sja_bus.specs.TakingAll.{TakesAll};
     ghost use Rattle.sja_bus.specs.Moment.{moment, Keeps, OneBit};
 
-    /// A bus for a run of so many bits, 1 to 2^62. It has as many nodes, 1 to 8, as numbers of steps are given: the
-    /// journal of each has room for what its driver gives in so many steps, each at most 2^58, as all numbers of 32
-    /// bits are. Memory is taken here.
+    /// A bus for a run of so many bits, 1 to 2^62, whose ends each have links for so many activations. It has as many
+    /// nodes, 1 to 8, as numbers of steps are given: the journal of each has room for what its driver gives in so many
+    /// steps, each at most 2^58, as all numbers of 32 bits are. Memory is taken here.
     ///
     /// Error: [`OutOfMemory`] where memory was refused.
     pub fn new(
         alloc: Global,
         bits: u64,
+        starts: u64,
         steps: Vec<u64>,
         script: FaultScript,
     ) -> Result<Bus, OutOfMemory>
         requires nodes { (1 ≤ length steps.items) × (length steps.items ≤ 8) }
         requires bits { (1 ≤ bits) × (bits ≤ 2 ^ 62) }
         requires steps { All (λ n. n ≤ 2 ^ 58) steps.items }
-        ensures { IfOk result (λ b. b ≡ new_bus script bits (length steps.items) steps.items) }
+        ensures { IfOk result (λ b. b ≡ new_bus script bits (length steps.items) starts steps.items) }
     {
         let count = steps.len();
         let struck = StruckBits::new(alloc, script, bits)?;
@@ -100,6 +104,7 @@ impl Bus {
         let logs = Vec::with_capacity(alloc, count)?;
         Ok(Bus {
             struck,
+            starts,
             steps,
             run: 0,
             left: bits,
@@ -110,20 +115,23 @@ impl Bus {
     }
 
     /// Takes what the drivers gave: of each node in order all that its links show, one link after the other. `links`
-    /// are the ends of the nodes' links, in order. What holds of every bus is said of the one before it.
+    /// are the ends of the nodes' links, in order, each with as many as the bus was made for. What holds of every bus
+    /// is said of the one before it.
     ///
     /// Error: [`BusFault::BadCredit`], [`BusFault::BadOrder`] or [`BusFault::JournalFull`], and then the same always.
     pub fn gather<E: BusEnd>(&mut self, links: &mut [E]) -> Result<(), BusFault>
         requires ends { AreEnds E.node (length self.old.journals) links.old }
+        requires links { HaveLinks E.links self.old.starts links.old }
         ensures lawful { self.old.fault ≡ None →
             IsBusRun self.old.script self.old.run self.old.journals }
         ensures sames { EachRelated E.same links.old links.new }
         ensures script { self.new.script ≡ self.old.script }
+        ensures starts { self.new.starts ≡ self.old.starts }
         ensures steps { self.new.steps ≡ self.old.steps }
         ensures bits { (self.new.run ≡ self.old.run) × (self.new.left ≡ self.old.left) }
         ensures nodes { length self.new.journals ≡ length self.old.journals }
         ensures kept { OnOk result (KeepsAll E.stands self.old.journals self.new.journals links.old links.new) }
-        ensures within { OnOk result (EachBeginsWithin E.links self.old.journals self.new.journals links.old) }
+        ensures within { OnOk result (AreOnLinks self.new.starts self.new.journals) }
         ensures items { OnOk result (EachJournal MayHaveItems self.old.journals self.new.journals) }
         ensures untold { OnOk result (EachUntold self.old.untold self.new.untold self.old.journals self.new.journals) }
         ensures dry { OnOk result (AllDry E.dry self.new.journals links.new) }
@@ -177,6 +185,7 @@ impl Bus {
         board: &mut B,
     ) -> Result<(), BusFault>
         requires ends { AreEnds E.node (length self.old.journals) links.old }
+        requires links { HaveLinks E.links self.old.starts links.old }
         requires ports { length self.old.journals ≤ B.ports board.old }
         ensures keeps { Keeps E.BusEnd B.Board
             (moment self.old links.old board.old) (moment self.new links.new board.new) }
@@ -208,10 +217,12 @@ impl Bus {
     }
 
     /// How many bits were run. What holds of every bus without a fault is said beside it: by every cut of each node's
-    /// record the verdicts are right, and what each node saw in each bit is what the wire had.
+    /// record the verdicts are right, what each node saw in each bit is what the wire had, and no more activations of a
+    /// node have begun than there are links for.
     pub fn bits_run(&self) -> u64
         ensures value { result ≡ self.now.run }
         ensures lawful { self.now.fault ≡ None → IsBusRun self.now.script self.now.run self.now.journals }
+        ensures within { self.now.fault ≡ None → AreOnLinks self.now.starts self.now.journals }
     {
         self.run
     }

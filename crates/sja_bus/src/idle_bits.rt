@@ -21,9 +21,9 @@ impl Bus {
     ghost use Rattle.std.specs.Prelude.{IfErr, true, false};
     ghost use Rattle.lemmas.specs.Related.{EachRelated};
     ghost use Rattle.sja_wire.specs.declared.bus_fault.BusFault.{BusFault as Fault};
-    ghost use Rattle.sja_link.specs.Links.{AreEnds};
+    ghost use Rattle.sja_link.specs.Links.{AreEnds, HaveLinks};
     ghost use Rattle.sja_link.specs.BitEntries.{MayHaveItems};
-    ghost use Rattle.sja_wire.specs.Buses.{EachBeginsWithin, EachJournal, EachUntold, KeepsAll, AllDry, AllTold};
+    ghost use Rattle.sja_wire.specs.Buses.{AreOnLinks, EachJournal, EachUntold, KeepsAll, AllDry, AllTold};
     ghost use Rattle.sja_wire.specs.Reasons.{IsTakenAndRefused};
     ghost use Rattle.sja_bus.specs.Stretches.{IsStretch, EndsStretch, IsOutOfEntries, IsFullInStretch};
     ghost use Rattle.sja_bus.specs.Inside.AtOnce.{RunsAtOnce};
@@ -45,15 +45,17 @@ impl Bus {
         count: u32,
     ) -> Result<u32, BusFault>
         requires ends { AreEnds E.node (length self.old.journals) links.old }
+        requires links { HaveLinks E.links self.old.starts links.old }
         requires ports { length self.old.journals ≤ B.ports board.now }
         ensures sames { EachRelated E.same links.old links.new }
         ensures script { self.new.script ≡ self.old.script }
+        ensures starts { self.new.starts ≡ self.old.starts }
         ensures steps { self.new.steps ≡ self.old.steps }
         ensures nodes { length self.new.journals ≡ length self.old.journals }
         ensures most { IfOk result (λ n. n ≤ count) }
         ensures bits { IfOk result (λ n. (self.new.run ≡ self.old.run + n) × (self.new.left + n ≡ self.old.left)) }
         ensures kept { OnOk result (KeepsAll E.stands self.old.journals self.new.journals links.old links.new) }
-        ensures within { OnOk result (EachBeginsWithin E.links self.old.journals self.new.journals links.old) }
+        ensures within { OnOk result (AreOnLinks self.new.starts self.new.journals) }
         ensures dry { OnOk result (AllDry E.dry self.new.journals links.new) }
         ensures items { result ≡ Ok 0 → EachJournal MayHaveItems self.old.journals self.new.journals }
         ensures untold { result ≡ Ok 0 →
@@ -68,7 +70,7 @@ impl Bus {
         ensures reason { IfErr result (λ f. self.old.fault ≡ None →
             IsTakenAndRefused E.BusEnd (self.old.run + self.old.left) self.old.steps self.old.journals
             self.new.journals links.old links.new f
-            ⊎ IsFullInStretch E.BusEnd (self.old.run + self.old.left) self.old.steps self.old.left
+            ⊎ IsFullInStretch E.BusEnd self.old.starts (self.old.run + self.old.left) self.old.steps self.old.left
             self.old.journals self.new.journals links.old links.new f) }
         ensures stays { (f : Fault) → self.old.fault ≡ Some f →
             (result ≡ Err f) × (self.new ≡ self.old) × (links.new ≡ links.old) }
@@ -82,8 +84,10 @@ impl Bus {
         requires right { self.old.fault ≡ None }
         requires ports { length self.old.journals ≤ B.ports board.now }
         ensures script { self.new.script ≡ self.old.script }
+        ensures starts { self.new.starts ≡ self.old.starts }
         ensures steps { self.new.steps ≡ self.old.steps }
         ensures nodes { length self.new.journals ≡ length self.old.journals }
+        ensures within { OnOk result (AreOnLinks self.new.starts self.new.journals) }
         ensures runs { IfOk result (λ n. RunsAtOnce B.Board board.now count self.old self.new n) }
         ensures longest { IfOk result (λ n. EndsStretch count n self.new) }
         ensures fault { IfErr result (λ f. self.new.fault ≡ Some f) }
@@ -168,9 +172,9 @@ impl Seat {
     ghost use Rattle.std.specs.Prelude.{IfErr, true, false};
     ghost use Rattle.lemmas.specs.Related.{EachRelated};
     ghost use Rattle.sja_wire.specs.declared.bus_fault.BusFault.{BusFault as Fault};
-    ghost use Rattle.sja_link.specs.Links.{AreEnds};
+    ghost use Rattle.sja_link.specs.Links.{AreEnds, HaveLinks};
     ghost use Rattle.sja_link.specs.BitEntries.{MayHaveItems};
-    ghost use Rattle.sja_wire.specs.Buses.{EachBeginsWithin, EachJournal, EachUntold, KeepsAll, AllDry, AllTold};
+    ghost use Rattle.sja_wire.specs.Buses.{AreOnLinks, EachJournal, EachUntold, KeepsAll, AllDry, AllTold};
     ghost use Rattle.sja_wire.specs.Reasons.{IsTakenAndRefused};
     ghost use Rattle.sja_bus.specs.Stretches.{IsStretch, EndsStretch, IsOutOfEntries, IsFullInStretch};
     ghost use Rattle.sja_bus.specs.Inside.AtOnce.{RunsAtOnce};

@@ -11,7 +11,7 @@ impl Bus {
     ghost use Rattle.std.specs.Prelude.{OnOk, IfOk, IfErr};
     ghost use Rattle.sja_script.specs.Striking.{Strikes};
     ghost use Rattle.sja_wire.specs.declared.bus_fault.BusFault.{BusFault as Fault};
-    ghost use Rattle.sja_link.specs.Links.{AreEnds};
+    ghost use Rattle.sja_link.specs.Links.{AreEnds, HaveLinks};
     ghost use Rattle.sja_wire.specs.Buses.{IsStill};
     ghost use Rattle.sja_bus.specs.Moment.{moment, Keeps};
     ghost use Rattle.sja_bus.specs.UntilTold.{RunsUntilTold, StopsUntilTold, EndsUntilTold, RunsNone};
@@ -39,6 +39,7 @@ impl Bus {
         to_rest: bool,
     ) -> Result<u32, BusFault>
         requires ends { AreEnds E.node (length self.old.journals) links.old }
+        requires links { HaveLinks E.links self.old.starts links.old }
         requires ports { length self.old.journals ≤ B.ports board.old }
         ensures keeps { Keeps E.BusEnd B.Board
             (moment self.old links.old board.old) (moment self.new links.new board.new) }
@@ -72,7 +73,7 @@ impl Bus {
         most: u32,
         to_rest: bool,
     ) -> Result<u32, BusFault>
-        requires { MayRunBits E.node self.old links.old (B.ports board.old) most }
+        requires { MayRunBits E.BusEnd self.old links.old (B.ports board.old) most }
         ensures most { IfOk result (λ n. n ≤ most) }
         ensures runs { IfOk result (λ n. IsSoFar E.BusEnd B.Board (AnyBit E.BusEnd B.Board)
             (WorksUntold to_rest (moment self.old links.old board.old))

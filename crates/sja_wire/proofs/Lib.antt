@@ -1,2 +1,1 @@
 pub mod Wires
-pub mod OnLinks

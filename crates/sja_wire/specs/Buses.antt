@@ -13,17 +13,19 @@ use Rattle.sja_regs.specs.declared.bus_turn.BusTurn.{BusTurn}
 use Rattle.sja_wire.specs.declared.bus_fault.BusFault.{BusFault}
 use Rattle.sja_wire.specs.Wire.{wired, IsSeen, journal_at}
 use Rattle.sja_link.specs.Links.{Kept}
-use Rattle.sja_link.specs.Opening.{BeginsWithin}
+use Rattle.sja_link.specs.Activations.{HasActivations}
 use Rattle.sja_link.specs.OutOfOrder.{read_in}
 use Rattle.sja_wire.specs.Opens.{Opens}
 use Rattle.sja_link.specs.BitEntries.{HasBit}
 use Rattle.sja_wire.specs.Telling.{IsTurn, IsPassedOver, IsUntold}
 
--- what a contract sees of a bus: its script, for how many steps of each driver it has room, the bits that were run and
--- those that are left, the fault that it answers always, the journals of its nodes, and by node whether something was
--- taken or an abort changed the node since its port was told last
+-- what a contract sees of a bus: its script, for how many activations of each node there are links, for how many steps
+-- of each driver it has room, the bits that were run and those that are left, the fault that it answers always, the
+-- journals of its nodes, and by node whether something was taken or an abort changed the node since its port was told
+-- last
 pub record BusValue : Type 0 where
   pub script : List Strike
+  pub starts : ℕ
   pub steps : List ℕ
   pub run : ℕ
   pub left : ℕ
@@ -31,12 +33,13 @@ pub record BusValue : Type 0 where
   pub journals : List (List Entry)
   pub untold : List Bool
 
--- a bus of so many nodes to which nothing has happened, for a run of so many bits, in which each driver does so many
--- steps
-abbrev pub new_bus : List Strike → ℕ → ℕ → List ℕ → BusValue
-new_bus script bits nodes steps =
+-- a bus of so many nodes to which nothing has happened, with links for so many activations of each, for a run of so
+-- many bits, in which each driver does so many steps
+abbrev pub new_bus : List Strike → ℕ → ℕ → ℕ → List ℕ → BusValue
+new_bus script bits nodes starts steps =
     record {
       script = script;
+      starts = starts;
       steps = steps;
       run = 0;
       left = bits;
@@ -62,11 +65,9 @@ KeepsAll {E} stands before after links links_after =
     Kept stands (journal_at before node) (slice_index_or links node d) h →
     Kept stands (journal_at after node) (slice_index_or links_after node d) h
 
--- of each node: no activation began, beside those that had, whose link its end doesn't have
-abbrev pub EachBeginsWithin : {E : Type 0} → (E → ℕ) → List (List Entry) → List (List Entry) → List E → Type 0
-EachBeginsWithin {E} links_of before after links =
-    (node : ℕ) (d : E) → node < length before →
-    BeginsWithin (links_of (slice_index_or links node d)) (journal_at before node) (journal_at after node)
+-- of each node no more activations have begun than there are links for, and each item was of one of these links
+abbrev pub AreOnLinks : ℕ → List (List Entry) → Type 0
+AreOnLinks starts journals = (node : ℕ) → node < length journals → HasActivations starts (journal_at journals node)
 
 -- the link of each node that is read shows nothing upward
 abbrev pub AllDry : {E : Type 0} → (E → ℕ → Type 0) → List (List Entry) → List E → Type 0

@@ -19,6 +19,7 @@ use Rattle.sja_wire.specs.declared.bus_fault.BusFault.TheVariants.{BitsSpent, Ba
 use Rattle.sja_wire.specs.Wire.{journal_at}
 use Rattle.sja_link.specs.Links.{Kept, stops_of}
 use Rattle.sja_link.specs.Opening.{IsOpen, BeginsWithin}
+use Rattle.sja_link.specs.Activations.{HasActivations}
 use Rattle.sja_link.specs.Aborting.{IsApplied}
 use Rattle.sja_wire.specs.Opens.{Opens}
 use Rattle.sja_link.specs.BitEntries.{MayHaveItems, off_as}
@@ -93,7 +94,8 @@ room_for bits steps node = room_in bits (slice_index_or steps node 0)
 abbrev pub IsEndAt : {E : Type 0} → List E → ℕ → E → Type 0
 IsEndAt {E} links node end = (d : E) → slice_index_or links node d ≡ end
 
--- the fault is of one of its nodes, whose item was refused
+-- the fault is of one of its nodes, whose item was refused; no more of its activations have begun than its end has
+-- links
 pub record IsTakenAndRefused {E : Type 0} (e : Ends E) (bits : ℕ) (steps : List ℕ)
     (before now : List (List Entry)) (links after : List E) (f : BusFault) : Type 0 where
   pub node : ℕ
@@ -102,11 +104,12 @@ pub record IsTakenAndRefused {E : Type 0} (e : Ends E) (bits : ℕ) (steps : Lis
   pub is_end : IsEndAt links node end
   pub end_after : E
   pub is_after : IsEndAt after node end_after
+  pub within : HasActivations (e.links end) (journal_at now node)
   pub refuses : RefusesItem e (room_for bits steps node) (journal_at before node) (journal_at now node) end
       end_after node f
 
 -- items of one of its nodes were taken, and then its port ordered an abort that changes the node, and there is no room
--- for its entry. No activation began on the way whose link the node's end doesn't have
+-- for its entry. No more of its activations have begun than its end has links
 pub record IsNotAborted {E : Type 0} (e : Ends E) (orders_are : ℕ → Orders → Type 0) (bits : ℕ) (steps : List ℕ)
     (before now : List (List Entry)) (links after : List E) (f : BusFault) : Type 0 where
   pub node : ℕ
@@ -120,11 +123,11 @@ pub record IsNotAborted {E : Type 0} (e : Ends E) (orders_are : ℕ → Orders �
   pub full : IsFullFor (room_for bits steps node) (journal_at now node) Abort
   pub kept : (d : E) (h : ℕ → Account) → Kept e.stands (journal_at before node) (slice_index_or links node d) h →
       Kept e.stands (journal_at now node) (slice_index_or after node d) h
-  pub within : (d : E) →
-      BeginsWithin (e.links (slice_index_or links node d)) (journal_at before node) (journal_at now node)
+  pub within : (d : E) → HasActivations (e.links (slice_index_or links node d)) (journal_at now node)
 
 -- of one of its nodes items were taken and an abort was applied or none, and then its bit broke off; each end was the
--- same one still, and no activation began on the way whose link the node's end doesn't have
+-- same one still. No more of its activations had begun than its end has links, and where an item was given back, it was
+-- given back on one of these links
 pub record IsBrokenOff {E : Type 0} (e : Ends E) (orders_are : ℕ → Orders → Type 0) (bits : ℕ) (steps : List ℕ)
     (before now : List (List Entry)) (links : List E) (f : BusFault) : Type 0 where
   pub node : ℕ
@@ -135,9 +138,10 @@ pub record IsBrokenOff {E : Type 0} (e : Ends E) (orders_are : ℕ → Orders �
   pub opens : Opens (orders_are node) (journal_at before node) opened
   pub kept : (d : E) (h : ℕ → Account) → Kept e.stands (journal_at before node) (slice_index_or links node d) h →
       Kept e.stands opened (slice_index_or between node d) h
-  pub within : (d : E) → BeginsWithin (e.links (slice_index_or links node d)) (journal_at before node) opened
   pub end : E
   pub is_end : IsEndAt between node end
+  pub within : HasActivations (e.links end) opened
+  pub on_link : f ≡ Stuck node → read_in (journal_at now node) ≤ e.links end
   pub broken : IsBrokenFor e node (room_for bits steps node) opened (journal_at now node) end f
 
 -- why a bit doesn't come to its end

@@ -1,5 +1,5 @@
--- Activations that begin, node by node: none whose link its end doesn't have.
-use Rattle.std.proofs.Common.{◌≡◌, ℕ, ◌+◌, ◌<◌, List, [], ◌∷◌, length, refl, sym, ap, ◌∙◌, subst, arith}
+-- Activations that begin, node by node: none whose link its end doesn't have, and so no more than there are links for.
+use Rattle.std.proofs.Common.{◌≡◌, ℕ, ◌<◌, List, [], ◌∷◌, length, refl, sym, ap, ◌∙◌, subst, arith}
 use Rattle.std.specs.Prelude.{slice_index_or}
 use Rattle.std.proofs.lemmas.List.{get_or_default as or_same}
 use Rattle.lemmas.specs.Related.{EachRelated}
@@ -8,13 +8,19 @@ use Rattle.sja_regs.specs.declared.orders.Orders.{Orders}
 use Rattle.sja_regs.specs.declared.bus_turn.BusTurn.{BusTurn}
 use Rattle.can_bits.specs.declared.level.Level.{Level}
 use Rattle.sja_link.specs.declared.entry.Entry.{Entry}
+use Rattle.sja_link.specs.declared.entry.Entry.TheVariants.{Bit}
+use Rattle.sja_link.specs.Activations.{HasActivations}
+use Rattle.sja_link.specs.Links.{AreEnds, HaveLinks}
 use Rattle.sja_link.specs.Opening.{BeginsWithin, begun_in}
-use Rattle.sja_link.proofs.Growing.Begins.{begins_none, begun_bit}
-use Rattle.sja_wire.specs.Wire.{journal_at}
-use Rattle.sja_wire.specs.Buses.{EachBeginsWithin}
+use Rattle.sja_link.proofs.Growing.Activations.{has_activations}
+use Rattle.sja_link.proofs.Growing.Begins.{begins_none, begun_bit, begun_push}
+use Rattle.sja_wire.specs.Buses.{AreOnLinks}
 use Rattle.sja_bus.specs.declared.seat.Seat.{Seat}
 use Rattle.sja_bus.specs.declared.struck_nodes.StruckNodes.{StruckNodes}
-use Rattle.sja_bus.specs.Inside.Rows.{EachSeat, SeatBegins, SeatOpens, SeatTakes, SeatTurns, journals_of, seen_by}
+use Rattle.sja_bus.specs.UntilTold.{HasBitsMore}
+use Rattle.sja_bus.specs.UntilTold.HasBitsMore.{none, one_more}
+use Rattle.sja_bus.specs.Inside.Rows.{AreBegun, EachSeat, SeatBegins, SeatHasBits, SeatOpens, SeatTakes, SeatTurns}
+use Rattle.sja_bus.specs.Inside.Rows.{journals_of, seen_by}
 use Rattle.sja_bus.proofs.AllNodes.Running.{journal_is, count_is}
 
 -- what a seat took, or took and aborted, with it
@@ -48,24 +54,54 @@ begins_turned links_of links was_told was_kept struck level seats opened after c
     (begun_bit old.journal.entries new.journal.entries old.drives (seen_by struck level m) turn.bit) n far
     (begins m s few d n far was)
 
--- nor where nothing was taken before it
-pub begins_bit : {E : Type 0} (links_of : E → ℕ) (links : List E) (was_told : ℕ → BusTurn → Type 0)
-    (was_kept : ℕ → Type 0) (struck : StruckNodes) (level : Level) (seats after : List Seat) →
-    EachSeat (SeatTurns was_told was_kept struck level) seats after → EachSeat (SeatBegins links_of links) seats after
-begins_bit links_of links was_told was_kept struck level seats after turns =
-    begins_turned links_of links was_told was_kept struck level seats seats after refl (λ m s few d n far was. was)
-    turns
+-- ---- no more have begun than there are links for
+
+-- after what was taken, where each end has so many links
+pub begun_then : {E : Type 0} (links_of : E → ℕ) (starts : ℕ) (links : List E) (seats after : List Seat) →
+    length links ≡ length seats → length after ≡ length seats → HaveLinks links_of starts links →
+    EachSeat (SeatBegins links_of links) seats after → AreBegun starts seats → AreBegun starts after
+begun_then links_of starts [] seats after ends len have begins was k s few = absurd (omega (arith, ends, len, few))
+begun_then links_of starts (d ∷ links) seats after ends len have begins was k s few =
+    let here : k < length seats = omega (arith, len, few) in
+    let many = have k d (omega (arith, ends, here)) in
+    begins k s here d starts (omega (arith, many)) (was k s here)
+
+-- as many ends as seats are those of a bus with these journals
+pub ends_count : {E : Type 0} (node_of : E → ℕ) (journals : List (List Entry)) (seats : List Seat) (links : List E) →
+    journals_of seats ≡ journals → AreEnds node_of (length journals) links → length links ≡ length seats
+ends_count node_of journals seats links seen ends =
+    ends.count ∙ sym (ap (λ (l : List (List Entry)). length l) seen) ∙ count_is seats
+
+-- after a bit
+pub begun_turned : (starts : ℕ) (was_told : ℕ → BusTurn → Type 0) (was_kept : ℕ → Type 0) (struck : StruckNodes)
+    (level : Level) (seats after : List Seat) → length after ≡ length seats →
+    EachSeat (SeatTurns was_told was_kept struck level) seats after → AreBegun starts seats → AreBegun starts after
+begun_turned starts was_told was_kept struck level seats after len turns was k s few =
+    let old = slice_index_or seats k s in let new = slice_index_or after k s in
+    let here : k < length seats = omega (arith, len, few) in
+    let same = begun_bit old.journal.entries new.journal.entries old.drives (seen_by struck level k)
+    (turns k s here).bit in
+    let before = was k s here in omega (arith, same, before)
+
+-- after bits and nothing else
+begun_more : (j k : List Entry) → HasBitsMore j k → begun_in k ≡ begun_in j
+begun_more j _ none = refl
+begun_more j _ (one_more k driven seen more tells) =
+    begun_push k (Bit driven seen) (λ p. refl) ∙ begun_more j k more
+
+pub begun_bits : (starts : ℕ) (seats after : List Seat) → length after ≡ length seats →
+    EachSeat SeatHasBits seats after → AreBegun starts seats → AreBegun starts after
+begun_bits starts seats after len more was k s few =
+    let old = slice_index_or seats k s in let new = slice_index_or after k s in
+    let here : k < length seats = omega (arith, len, few) in
+    let same = begun_more old.journal.entries new.journal.entries (more k s here) in
+    let before = was k s here in omega (arith, same, before)
 
 -- by the journals of all
-pub all_begin : {E : Type 0} (links_of : E → ℕ) (links : List E) (seats after : List Seat) →
-    length after ≡ length seats → EachSeat (SeatBegins links_of links) seats after →
-    EachBeginsWithin links_of (journals_of seats) (journals_of after) links
-all_begin links_of links [] after len begins = λ node d few. absurd (omega arith)
-all_begin links_of links (s ∷ seats) after len begins = λ node d few.
-    let all = s ∷ seats in let cb = count_is all in
-    let near : node < length all = omega (arith, few, cb) in
-    let most = links_of (slice_index_or links node d) in
-    let P : List Entry → Type 0 = λ j. BeginsWithin most j (journal_at (journals_of after) node) in
-    let Q : List Entry → Type 0 = λ k. BeginsWithin most (slice_index_or all node s).journal.entries k in
-    subst P (sym (journal_is all node s near)) (subst Q
-    (sym (journal_is after node s (omega (arith, near, len)))) (begins node s near d))
+pub on_links : (starts : ℕ) (seats : List Seat) → AreBegun starts seats → AreOnLinks starts (journals_of seats)
+on_links starts [] begun node few = absurd (omega arith)
+on_links starts (s ∷ seats) begun node few =
+    let all = s ∷ seats in let count = count_is all in
+    let near : node < length all = omega (arith, few, count) in
+    subst (HasActivations starts) (sym (journal_is all node s near))
+    (has_activations starts (slice_index_or all node s).journal.entries (begun node s near))

@@ -4,6 +4,7 @@ use Rattle.std.proofs.Common.{replicate, inl, inr, refl, sym, ap, ◌∙◌, sub
 use Rattle.std.specs.Prelude.{slice_index_or, ◌↔◌, ◌⊎◌}
 use Rattle.can_bits.specs.declared.level.Level.{Level}
 use Rattle.can_node.specs.Stands.{ShowsRest}
+use Rattle.sja_link.specs.Links.{HaveLinks}
 use Rattle.sja_link.specs.declared.bus_end.BusEnd.{Ghosts as Ends}
 use Rattle.lemmas.specs.Related.{EachRelated}
 use Rattle.sja_regs.specs.declared.orders.Orders.{Orders}
@@ -22,12 +23,12 @@ use Rattle.sja_bus.specs.Moment.{Moment, OneBit}
 use Rattle.sja_bus.specs.Several.{SomeWork, AreBits}
 use Rattle.sja_bus.specs.Several.AreBits.{no_bit, one_more}
 use Rattle.sja_bus.specs.Inside.Refusing.{HaveRoom, SeatBreaks}
-use Rattle.sja_bus.specs.Inside.Rows.{AreReady, EachSeat, SeatBegins, SeatTurns, GoesAll, IsBus, journals_of}
+use Rattle.sja_bus.specs.Inside.Rows.{AreBegun, AreReady, EachSeat, SeatTurns, GoesAll, IsBus, journals_of}
 use Rattle.sja_bus.specs.Inside.RunningOn.{NoneAborts, moment_of, bus_of, AnyBit}
 use Rattle.sja_bus.specs.Inside.Whole.{IsRowBit}
 use Rattle.sja_bus.proofs.ItemsTaken.BreakingSeats.{stops_bit}
 use Rattle.sja_bus.proofs.AllNodes.Journals.{keeps_all, is_bit, all_told}
-use Rattle.sja_bus.proofs.AllNodes.Begins.{all_begin}
+use Rattle.sja_bus.proofs.AllNodes.Begins.{on_links}
 use Rattle.sja_bus.proofs.WholeBus.Logs.{none_untold}
 use Rattle.sja_bus.proofs.AllNodes.Many.{goes_all_refl}
 use Rattle.sja_bus.proofs.Resting.Rests.{rests_at}
@@ -43,20 +44,19 @@ some_work seats ready which =
     (which.0, few, rests_at seats false which.0 ready few which.2)
 
 -- by the bus, its links and its ports
-pub one_bit : {E B : Type 0} (e : Ends E) (b : Ports B) (script : List Strike) (steps : List ℕ)
+pub one_bit : {E B : Type 0} (e : Ends E) (b : Ports B) (script : List Strike) (starts : ℕ) (steps : List ℕ)
     (n next left less : ℕ)
     (struck : StruckNodes) (seats after : List Seat) (links links_after : List E) (board now : B) → next ≡ n + 1 →
     less + 1 ≡ left → length after ≡ length seats → length seats ≤ 8 →
     ((node : ℕ) → node < 8 → IsAmong node struck ↔ Strikes script n node) →
     IsRowBit (b.orders_are board) (b.told board now) (b.kept board now) struck seats after →
     EachRelated e.same links links_after → KeepsOthers b.ports b.kept (length seats) board now →
-    GoesAll e.same e.stands seats after links links_after → EachSeat (SeatBegins e.links links) seats after →
+    GoesAll e.same e.stands seats after links links_after → AreBegun starts after →
     IsBus script n seats → IsBus script next after →
-    ((k : ℕ) → k < length seats → b.facts now k) → OneBit e b (moment_of script steps n left seats links board)
-    (moment_of script steps next less after links_after now)
-one_bit e b script steps n next left less struck seats after links links_after board now is_next is_less len few at row
-    sames
-    others goes begins bus bus_after are =
+    ((k : ℕ) → k < length seats → b.facts now k) → OneBit e b (moment_of script starts steps n left seats links board)
+    (moment_of script starts steps next less after links_after now)
+one_bit e b script starts steps n next left less struck seats after links links_after board now is_next is_less len
+    few at row sames others goes begun bus bus_after are =
     let nodes : length after ≡ length (journals_of seats) = len ∙ sym (count_is seats) in
     let K : ℕ → Type 0 = λ m. KeepsOthers b.ports b.kept m board now in
     let told = b.told board now in let kept = b.kept board now in record {
@@ -64,13 +64,14 @@ one_bit e b script steps n next left less struck seats after links links_after b
         sames = sames;
         others = subst K (sym (count_is seats)) others;
         script = refl;
+        starts = refl;
         steps = refl;
         nodes = count_is after ∙ nodes;
       };
       run = is_next;
       left = is_less;
       kept = keeps_all e.same e.stands seats after links links_after len goes;
-      within = all_begin e.links links seats after len begins;
+      within = on_links starts after begun;
       bit = is_bit (b.orders_are board) told kept script n struck seats after len few at bus.calm row;
       told = none_untold after (all_told told kept struck seats after len row) ∙ ap (λ m. replicate m false) nodes;
       right = refl;
@@ -102,16 +103,17 @@ facts_of_bit {B} b go_on struck level seats after board now ports others turns f
 
 -- none so far
 pub none_yet : {E B : Type 0} (One : ℕ → Moment E B → Moment E B → Type 0) (Before : Moment E B → Type 0)
-    (script : List Strike) (steps : List ℕ) (from left : ℕ) (seats : List Seat) (links : List E) (board : B) →
-    AreBits One Before (moment_of script steps from left seats links board) 0
-    (moment_of script steps (from + 0) (left - 0) seats links board)
-none_yet One Before script steps from left seats links board =
+    (script : List Strike) (starts : ℕ) (steps : List ℕ) (from left : ℕ) (seats : List Seat) (links : List E)
+    (board : B) →
+    AreBits One Before (moment_of script starts steps from left seats links board) 0
+    (moment_of script starts steps (from + 0) (left - 0) seats links board)
+none_yet One Before script starts steps from left seats links board =
     let f : from ≡ from + 0 = omega arith in let l : left ≡ left - 0 = omega arith in
-    let P : ℕ → Type 0 = λ n. AreBits One Before (moment_of script steps from left seats links board) 0
-    (moment_of script steps n left seats links board) in
-    let Q : ℕ → Type 0 = λ n. AreBits One Before (moment_of script steps from left seats links board) 0
-    (moment_of script steps (from + 0) n seats links board) in
-    subst Q l (subst P f (no_bit (moment_of script steps from left seats links board)))
+    let P : ℕ → Type 0 = λ n. AreBits One Before (moment_of script starts steps from left seats links board) 0
+    (moment_of script starts steps n left seats links board) in
+    let Q : ℕ → Type 0 = λ n. AreBits One Before (moment_of script starts steps from left seats links board) 0
+    (moment_of script starts steps (from + 0) n seats links board) in
+    subst Q l (subst P f (no_bit (moment_of script starts steps from left seats links board)))
 
 -- one more
 pub more_bits : {E B : Type 0} (One : ℕ → Moment E B → Moment E B → Type 0) (Before : Moment E B → Type 0)
@@ -124,38 +126,41 @@ more_bits One Before was mid now n next is bits before one =
 
 -- after one bit more
 pub bits_on : {E B : Type 0} (e : Ends E) (b : Ports B) (Before : Moment E B → Type 0) (was : Moment E B)
-    (script : List Strike)
-    (steps : List ℕ) (from run most left : ℕ) (struck : StruckNodes) (seats after : List Seat) (links links_after : List
-    E)
-    (board now : B) → run < most → most ≤ left → length after ≡ length seats → length seats ≤ 8 →
+    (script : List Strike) (starts : ℕ) (steps : List ℕ) (from run most left : ℕ) (struck : StruckNodes)
+    (seats after : List Seat) (links links_after : List E) (board now : B) → run < most → most ≤ left →
+    length after ≡ length seats → length seats ≤ 8 →
     ((node : ℕ) → node < 8 → IsAmong node struck ↔ Strikes script (from + run) node) →
     IsRowBit (b.orders_are board) (b.told board now) (b.kept board now) struck seats after →
     EachRelated e.same links links_after → KeepsOthers b.ports b.kept (length seats) board now →
-    GoesAll e.same e.stands seats after links links_after → EachSeat (SeatBegins e.links links) seats after →
+    GoesAll e.same e.stands seats after links links_after → AreBegun starts after →
     IsBus script (from + run) seats → IsBus script (from + (run + 1)) after →
     ((k : ℕ) → k < length seats → b.facts now k) →
-    Before (moment_of script steps (from + run) (left - run) seats links board) →
-    AreBits (AnyBit e b) Before was run (moment_of script steps (from + run) (left - run) seats links board) →
+    Before (moment_of script starts steps (from + run) (left - run) seats links board) →
+    AreBits (AnyBit e b) Before was run (moment_of script starts steps (from + run) (left - run) seats links board) →
     AreBits (AnyBit e b) Before was (run + 1)
-    (moment_of script steps (from + (run + 1)) (left - (run + 1)) after links_after now)
-bits_on e b Before was script steps from run most left struck seats after links links_after board now early enough len
-    few at
-    row sames others goes begins bus bus_after are holds bits =
-    more_bits (AnyBit e b) Before was (moment_of script steps (from + run) (left - run) seats links board)
-    (moment_of script steps (from + (run + 1)) (left - (run + 1)) after links_after now) run (run + 1) refl bits holds
-    (one_bit e b script steps (from + run) (from + (run + 1)) (left - run) (left - (run + 1)) struck seats after links
+    (moment_of script starts steps (from + (run + 1)) (left - (run + 1)) after links_after now)
+bits_on e b Before was script starts steps from run most left struck seats after links links_after board now early
+    enough len few at row sames others goes begun bus bus_after are holds bits =
+    more_bits (AnyBit e b) Before was (moment_of script starts steps (from + run) (left - run) seats links board)
+    (moment_of script starts steps (from + (run + 1)) (left - (run + 1)) after links_after now) run (run + 1) refl
+    bits holds
+    (one_bit e b script starts steps (from + run) (from + (run + 1)) (left - run) (left - (run + 1)) struck seats
+    after links
     links_after board now (omega arith) (omega (arith, early, enough)) len few at row sames others
-    goes begins bus bus_after are)
+    goes begun bus bus_after are)
 
 -- the bit of one broke off
-pub stops_on : {E : Type 0} (e : Ends E) (orders_are : ℕ → Orders → Type 0) (script : List Strike) (steps : List ℕ)
-    (run left bits : ℕ) (seats after : List Seat) (links links_after : List E) (f : BusFault) (now : BusValue) →
-    ((x : E) → e.same x x) → now.journals ≡ journals_of after → run + left ≡ bits → length after ≡ length seats →
+pub stops_on : {E : Type 0} (e : Ends E) (orders_are : ℕ → Orders → Type 0) (script : List Strike) (starts : ℕ)
+    (steps : List ℕ) (run left bits : ℕ) (seats after : List Seat) (links links_after : List E) (f : BusFault)
+    (now : BusValue) → ((x : E) → e.same x x) → ((x y : E) → e.same x y → e.links y ≡ e.links x) →
+    now.journals ≡ journals_of after → run + left ≡ bits → length after ≡ length seats →
+    length links ≡ length seats → AreBegun starts seats → HaveLinks e.links starts links →
     HaveRoom (room_for bits steps) seats → NoneAborts orders_are (length seats) → SeatBreaks e seats after links f →
-    StopsBit e orders_are (bus_of script steps run left seats) now links links_after f
-stops_on e orders_are script steps run left bits seats after links links_after f now same_refl journals all len rooms
-    none breaks =
-    stops_bit e orders_are script steps run left bits None seats after links links_after f now journals all len rooms
+    StopsBit e orders_are (bus_of script starts steps run left seats) now links links_after f
+stops_on e orders_are script starts steps run left bits seats after links links_after f now same_refl same_links
+    journals all len ends begun many rooms none breaks =
+    stops_bit e orders_are script starts steps run left bits None seats after links links_after f now same_links
+    journals all len ends begun many rooms
     (inr (record {
       opened = seats;
       between = links;

@@ -10,7 +10,7 @@ use Rattle.lemmas.specs.Related.{EachRelated}
 use Rattle.lemmas.proofs.Related.{each_refl, each_trans, each_one, each_at}
 use Rattle.sja_bus.specs.declared.seat.Seat.{Seat}
 use Rattle.sja_link.proofs.Growing.Moving.{grows_refl, grows_trans}
-use Rattle.sja_link.specs.Links.{Grows, Kept, AreEnds}
+use Rattle.sja_link.specs.Links.{Grows, Kept, AreEnds, HaveLinks}
 use Rattle.sja_link.specs.Inside.Moving.{Goes}
 use Rattle.sja_bus.specs.Inside.Rows.{IsOf, AreReady, GoesAll, EachSeat, Done}
 
@@ -102,6 +102,14 @@ ends_kept node_of same f links after n m is rel ends =
       count = omega (arith, long, count, is);
       own = λ k d few. each_at same node_of f links after k d rel ∙ ends.own k d (omega (arith, few, is));
     }
+
+-- and have as many links as the bus was made for
+pub links_kept : {E : Type 0} (links_of : E → ℕ) (same : E → E → Type 0) →
+    ((x y : E) → same x y → links_of y ≡ links_of x) → (starts now : ℕ) (links after : List E) → now ≡ starts →
+    EachRelated same links after → HaveLinks links_of starts links → HaveLinks links_of now after
+links_kept links_of same f starts now links after is rel many k d few =
+    let long = each_length same links after rel in
+    each_at same links_of f links after k d rel ∙ many k d (omega (arith, long, few)) ∙ sym is
 
 pub goes_all_trans : {E : Type 0} (same : E → E → Type 0) (stands : E → ℕ → Lists → Type 0) →
     ((x y z : E) → same x y → same y z → same x z) → (a b c : List Seat) (x y z : List E) → length b ≡ length a →

@@ -11,7 +11,7 @@ use Rattle.sja_bus.specs.Moment.{Moment, Keeps, OneBit}
 use Rattle.sja_bus.specs.Several.{AreBits, BreaksOff}
 use Rattle.sja_bus.specs.Several.AreBits.{no_bit, one_more}
 use Rattle.sja_bus.specs.Inside.RunningOn.{AreFor, IsSoFar, IsStopped}
-use Rattle.sja_bus.proofs.AllNodes.Many.{ends_kept}
+use Rattle.sja_bus.proofs.AllNodes.Many.{ends_kept, links_kept}
 
 -- what follows for each number of bits that may have been answered
 pub each_count : {P Q : ℕ → Type 0} (r : Result ℕ BusFault) → ((n : ℕ) → P n → Q n) → IfOk r P → IfOk r Q
@@ -90,13 +90,16 @@ breaks_later e orders_are One More Before was mid now m left count f most later 
 
 module _ {E B : Type 0} (e : Ends E) (b : Ports B) where
   -- links and ports for the nodes stay such
-  pub still_for : ((x y : E) → e.same x y → e.node y ≡ e.node x) → (was now : Moment E B) → Keeps e b was now →
-      AreFor e.node was.links (length was.bus.journals) (b.ports was.board) →
-      AreFor e.node now.links (length now.bus.journals) (b.ports now.board)
-  still_for same_node was now keeps are =
+  pub still_for : ((x y : E) → e.same x y → e.node y ≡ e.node x) → ((x y : E) → e.same x y → e.links y ≡ e.links x) →
+      (was now : Moment E B) → Keeps e b was now →
+      AreFor e was.links (length was.bus.journals) was.bus.starts (b.ports was.board) →
+      AreFor e now.links (length now.bus.journals) now.bus.starts (b.ports now.board)
+  still_for same_node same_links was now keeps are =
       let nodes = keeps.nodes in let ports = are.ports in let boards = keeps.others.0 in record {
         ends = ends_kept e.node e.same same_node was.links now.links (length was.bus.journals)
             (length now.bus.journals) nodes keeps.sames are.ends;
+        many = links_kept e.links e.same same_links was.bus.starts now.bus.starts was.links now.links keeps.starts
+            keeps.sames are.many;
         ports = omega (arith, nodes, ports, boards);
       }
 
@@ -105,6 +108,7 @@ module _ {E B : Type 0} (e : Ends E) (b : Ports B) where
     sames = each_refl e.same same_refl m.links;
     others = (refl, λ k far. kept_refl m.board k);
     script = refl;
+    starts = refl;
     steps = refl;
     nodes = refl;
   }
@@ -117,6 +121,7 @@ module _ {E B : Type 0} (e : Ends E) (b : Ports B) where
     others = others_trans b.ports b.kept kept_trans (length was.bus.journals) (length mid.bus.journals) was.board
         mid.board now.board p.nodes p.others q.others;
     script = q.script ∙ p.script;
+    starts = q.starts ∙ p.starts;
     steps = q.steps ∙ p.steps;
     nodes = q.nodes ∙ p.nodes;
   }

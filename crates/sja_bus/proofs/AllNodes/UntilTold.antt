@@ -71,11 +71,12 @@ row_bits to_rest begun seats after count ready first row m s few =
     (idle_more level old new (idle_bit level old new (ready m s here).ready (row.bits m s here)))
 
 -- since the bus had these seats no port was told anything
-none_told : {E B : Type 0} (script : List Strike) (steps : List ℕ) (from run left less : ℕ)
+none_told : {E B : Type 0} (script : List Strike) (starts : ℕ) (steps : List ℕ) (from run left less : ℕ)
     (begun seats : List Seat) (given links : List E) (first board : B) → board ≡ first →
     length seats ≡ length begun → EachSeat SeatHasBits begun seats →
-    NoneTold (moment_of script steps from left begun given first) (moment_of script steps run less seats links board)
-none_told script steps from run left less begun seats given links first board still count more = record {
+    NoneTold (moment_of script starts steps from left begun given first) (moment_of script starts steps run less seats
+    links board)
+none_told script starts steps from run left less begun seats given links first board still count more = record {
   board = still;
   journals = λ node few. each node (let c = count_is begun in omega (arith, few, c));
 }
@@ -89,28 +90,30 @@ none_told script steps from run left less begun seats given links first board st
         (sym (journal_is seats node s (omega (arith, few, count)))) (more node s few))
 
 -- and some node works, where that is asked for
-pub works_untold : {E B : Type 0} (to_rest : Bool) (script : List Strike) (steps : List ℕ) (from run left less : ℕ)
-    (begun seats : List Seat) (given links : List E) (first board : B) → AreReady seats →
+pub works_untold : {E B : Type 0} (to_rest : Bool) (script : List Strike) (starts : ℕ) (steps : List ℕ)
+    (from run left less : ℕ) (begun seats : List Seat) (given links : List E) (first board : B) → AreReady seats →
     (to_rest ≡ true → (k : ℕ) × (k < length seats) × ((s : Seat) → ShowsRest (slice_index_or seats k s).node false)) →
     board ≡ first → length seats ≡ length begun → EachSeat SeatHasBits begun seats →
-    WorksUntold to_rest (moment_of script steps from left begun given first)
-    (moment_of script steps run less seats links board)
-works_untold to_rest script steps from run left less begun seats given links first board ready works still len more = (
-  λ yes. some_work seats ready (works yes),
-  none_told script steps from run left less begun seats given links first board still len more,
-)
+    WorksUntold to_rest (moment_of script starts steps from left begun given first)
+    (moment_of script starts steps run less seats links board)
+works_untold to_rest script starts steps from run left less begun seats given links first board ready works still len
+    more = (
+      λ yes. some_work seats ready (works yes),
+      none_told script starts steps from run left less begun seats given links first board still len more,
+    )
 
 -- ---- why none of them was run, and why no more
 
 -- why no more are run of so many, after n of them: by how many were asked for, by a journal, by the script, or as all
 -- nodes are at rest
-module _ (to_rest : Bool) (count : ℕ) (script : List Strike) (steps : List ℕ) (run left : ℕ) (fault : Option BusFault)
-    (seats : List Seat) where
+module _ (to_rest : Bool) (count : ℕ) (script : List Strike) (starts : ℕ) (steps : List ℕ) (run left : ℕ)
+    (fault : Option BusFault) (seats : List Seat) where
   inside : (k : ℕ) → k < length seats → k < length (journals_of seats)
   inside k few = let c = count_is seats in omega (arith, few, c)
 
   none_after : (n more : ℕ) → (more ≡ 0 → n ≡ count) → AreReady seats → HaveRoom (room_for (run + left) steps) seats →
-      RowsRunNone to_rest script run more seats → NoMore to_rest count n (bus_with script steps run left fault seats)
+      RowsRunNone to_rest script run more seats → NoMore to_rest count n (bus_with script starts steps run left fault
+      seats)
   none_after n more all ready rooms (inl zero) = all_run (all zero)
   none_after n more all ready rooms (inr (inl some)) =
       let s = seat_at seats some.0 some.1 in let room = ap (λ (r : Room). r.all) (rooms some.0 s some.1) in
@@ -124,7 +127,7 @@ module _ (to_rest : Bool) (count : ℕ) (script : List Strike) (steps : List ℕ
 
   -- there is room for so many
   pub free_bus : (n : ℕ) → n ≢ 0 → AreFree n seats → HaveRoom (room_for (run + left) steps) seats →
-      HasFree n (bus_with script steps run left fault seats)
+      HasFree n (bus_with script starts steps run left fault seats)
   free_bus n some free rooms node few =
       let c = count_is seats in let near : node < length seats = omega (arith, few, c) in
       let s = seat_at seats node near in let fits = free node s near in
@@ -135,7 +138,7 @@ module _ (to_rest : Bool) (count : ℕ) (script : List Strike) (steps : List ℕ
   module _ (orders_are : ℕ → Orders → Type 0) where
     -- some may be run
     pub calm_bus : NoneAborts orders_are (length seats) → AreTold seats →
-        IsCalm orders_are (bus_with script steps run left fault seats)
+        IsCalm orders_are (bus_with script starts steps run left fault seats)
     calm_bus asked calm = record {
       told = λ node few. let c = count_is seats in let near : node < length seats = omega (arith, few, c) in
           let s = seat_at seats node near in
@@ -145,7 +148,7 @@ module _ (to_rest : Bool) (count : ℕ) (script : List Strike) (steps : List ℕ
 
     -- none was run: by a port
     pub held_by_port : SomeAborts orders_are (length seats) ⊎ SomeUntold seats →
-        RunsNone orders_are to_rest count (bus_with script steps run left fault seats)
+        RunsNone orders_are to_rest count (bus_with script starts steps run left fault seats)
     held_by_port (inl some) = aborts some.0 some.1 (inside some.0 some.2) some.3 some.4
     held_by_port (inr some) = let s = seat_at seats some.0 some.1 in
         untold some.0 (inside some.0 some.1) (untold_is seats some.0 s some.1 ∙ some.2 s)
@@ -153,21 +156,26 @@ module _ (to_rest : Bool) (count : ℕ) (script : List Strike) (steps : List ℕ
     -- by the rest
     pub held_by_rows : AreReady seats → HaveRoom (room_for (run + left) steps) seats →
         RowsRunNone to_rest script run count seats →
-        RunsNone orders_are to_rest count (bus_with script steps run left fault seats)
+        RunsNone orders_are to_rest count (bus_with script starts steps run left fault seats)
     held_by_rows ready rooms why = no_more (none_after 0 count (λ zero. sym zero) ready rooms why)
 
 -- some were run, and no more, or a port was told in the last one
-pub ended : {E B : Type 0} (b : Ports B) (to_rest : Bool) (most n : ℕ) (script : List Strike) (steps : List ℕ)
-    (run left : ℕ) (seats : List Seat) (was : Moment E B) (links : List E) (board : B) → n ≤ most → AreReady seats →
-    HaveRoom (room_for (run + left) steps) seats →
+pub ended : {E B : Type 0} (b : Ports B) (to_rest : Bool) (most n : ℕ) (script : List Strike) (starts : ℕ)
+    (steps : List ℕ) (run left : ℕ) (seats : List Seat) (was : Moment E B) (links : List E) (board : B) →
+    n ≤ most → AreReady seats → HaveRoom (room_for (run + left) steps) seats →
     RowsRunNone to_rest script run (most - n) seats ⊎ SomeTold (b.told was.board board) seats →
-    EndsUntilTold b to_rest most was n (moment_of script steps run left seats links board)
-ended b to_rest most n script steps run left seats was links board few ready rooms (inl why) =
-    by_none (none_after to_rest most script steps run left None seats n (most - n) (λ zero. omega (arith, zero, few))
+    EndsUntilTold b to_rest most was n (moment_of script starts steps run left seats links board)
+ended b to_rest most n script starts steps run left seats was links board few ready rooms (inl why) =
+    by_none (none_after to_rest most script starts steps run left None seats n (most - n) (λ zero. omega (
+      arith,
+      zero,
+      few,
+    ))
     ready rooms why)
-ended b to_rest most n script steps run left seats was links board few ready rooms (inr some) =
+ended b to_rest most n script starts steps run left seats was links board few ready rooms (inr some) =
     let s = seat_at seats some.node some.few in let P : List Entry → Type 0 = λ j. IsLastTurn j some.turn in
-    by_told some.node some.turn (inside to_rest most script steps run left None seats some.node some.few) some.told
+    by_told some.node some.turn (inside to_rest most script starts steps run left None seats some.node some.few)
+    some.told
     (subst P (sym (journal_is seats some.node s some.few)) (some.last s))
 
 -- of as many as are left of those that were asked for

@@ -1,5 +1,5 @@
 -- How a bus breaks off, seat after seat.
-use Rattle.std.proofs.Common.{◌≡◌, ℕ, zero, suc, true, ◌+◌, ◌<◌, Option, List, [], ◌∷◌, length, inl, inr, sym}
+use Rattle.std.proofs.Common.{◌≡◌, ℕ, zero, suc, true, ◌+◌, ◌<◌, ◌≤◌, Option, List, [], ◌∷◌, length, inl, inr, sym}
 use Rattle.std.proofs.Common.{ap, ◌∙◌, subst, arith}
 use Rattle.std.specs.Prelude.{◌⊎◌, slice_index_or, slice_set}
 use Rattle.std.proofs.lemmas.Slice.Zip.{AllZip-long as each_length}
@@ -13,12 +13,15 @@ use Rattle.sja_link.specs.Written.{Room, IsFullFor}
 use Rattle.sja_link.specs.declared.bus_end.BusEnd.{Ghosts as Ends}
 use Rattle.sja_link.specs.BusLedgers.{link_of}
 use Rattle.sja_wire.specs.declared.bus_fault.BusFault.{BusFault}
-use Rattle.sja_wire.specs.declared.bus_fault.BusFault.TheVariants.{JournalFull}
+use Rattle.sja_wire.specs.declared.bus_fault.BusFault.TheVariants.{JournalFull, Stuck}
 use Rattle.sja_bus.specs.declared.seat.Seat.{Seat}
 use Rattle.sja_wire.specs.Wire.{journal_at}
 use Rattle.lemmas.proofs.Related.{each_at}
-use Rattle.sja_link.specs.Links.{Kept}
-use Rattle.sja_link.specs.Opening.{BeginsWithin}
+use Rattle.sja_link.specs.Links.{HaveLinks, Kept}
+use Rattle.sja_link.specs.Activations.{HasActivations}
+use Rattle.sja_link.specs.Opening.{BeginsWithin, begun_in}
+use Rattle.sja_link.specs.OutOfOrder.{read_in}
+use Rattle.sja_link.proofs.Growing.Activations.{has_activations}
 use Rattle.sja_link.specs.Aborting.{IsApplied}
 use Rattle.sja_wire.specs.Opens.{Opens}
 use Rattle.sja_link.specs.BitEntries.{MayHaveItems}
@@ -28,9 +31,9 @@ use Rattle.sja_wire.specs.Reasons.StopsBit.{broken_off as broken_off_bit}
 use Rattle.sja_bus.specs.Inside.SeatBits.{BreaksInBit}
 use Rattle.sja_bus.specs.Inside.Taking.{FullForAbort}
 use Rattle.sja_bus.specs.Inside.Refusing.{HaveRoom, SeatRefuses, SeatFull, SeatBreaks, SeatStops}
-use Rattle.sja_bus.specs.Inside.Rows.{AreReady, GoesAll, Done, journals_of, untold_of}
+use Rattle.sja_bus.specs.Inside.Rows.{AreBegun, AreReady, GoesAll, Done, journals_of, untold_of}
 use Rattle.sja_wire.specs.Buses.{BusValue}
-use Rattle.sja_bus.proofs.ItemsTaken.Refusing.{not_taken}
+use Rattle.sja_bus.proofs.ItemsTaken.Refusing.{links_at, not_taken}
 use Rattle.sja_bus.proofs.AllNodes.Running.{journal_is, count_is}
 use Rattle.sja_bus.proofs.ItemsTaken.Breaking.{broken_from}
 
@@ -123,14 +126,14 @@ breaks_seat {E} e same_trans R seats now links here k s new d f few there len re
 
 -- ---- by the journals of all
 
-pub not_aborted : {E : Type 0} (e : Ends E) (orders_are : ℕ → Orders → Type 0) (bits : ℕ)
-    (steps : List ℕ) (seats after : List Seat) (links links_after : List E) (f : BusFault) → length after ≡ length seats
-    →
+pub not_aborted : {E : Type 0} (e : Ends E) (orders_are : ℕ → Orders → Type 0) (starts bits : ℕ) (steps : List ℕ)
+    (seats after : List Seat) (links links_after : List E) (f : BusFault) → length after ≡ length seats →
+    length links ≡ length seats → AreBegun starts seats → HaveLinks e.links starts links →
     HaveRoom (room_for bits steps) seats → SeatFull e orders_are seats after links links_after f →
     IsNotAborted e orders_are bits steps (journals_of seats) (journals_of after) links links_after f
-not_aborted e orders_are bits steps [] after links links_after f len rooms r = let none = r.few in
-    absurd (omega (arith, none))
-not_aborted {E} e orders_are bits steps (s ∷ seats) after links links_after f len rooms r =
+not_aborted e orders_are starts bits steps [] after links links_after f len ends begun many rooms r =
+    let none = r.few in absurd (omega (arith, none))
+not_aborted {E} e orders_are starts bits steps (s ∷ seats) after links links_after f len ends begun many rooms r =
     let all = s ∷ seats in let cb = count_is all in let k = r.node in let few = r.few in
     let full = r.full s in let room = rooms k s few in
     let was = journal_is all k s few in let now = journal_is after k s (omega (arith, few, len)) in
@@ -154,22 +157,32 @@ not_aborted {E} e orders_are bits steps (s ∷ seats) after links links_after f 
           let B : E → Type 0 = λ x. Kept e.stands (slice_index_or all k s).journal.entries x h in
           subst L (sym now) (subst A (sym (r.is_after d)) (full.kept h (subst B (r.is_end d) (subst K was kept))));
       within = λ d.
-          let K : List Entry → Type 0 = λ j. BeginsWithin (e.links (slice_index_or links k d)) j
-          (journal_at (journals_of after) k) in
-          let L : List Entry → Type 0 = λ j. BeginsWithin (e.links (slice_index_or links k d))
-          (slice_index_or all k s).journal.entries j in
-          let B : E → Type 0 = λ x. BeginsWithin (e.links x) (slice_index_or all k s).journal.entries
-          (slice_index_or after k s).journal.entries in
-          subst K (sym was) (subst L (sym now) (subst B (sym (r.is_end d)) full.within));
+          let so_many = links_at e.links starts links k r.end many (omega (arith, ends, few)) r.is_end in
+          let before = begun k s few in
+          let A : ℕ → Type 0 = λ n. HasActivations n (journal_at (journals_of after) k) in
+          let L : List Entry → Type 0 = HasActivations (e.links r.end) in
+          subst A (ap e.links (sym (r.is_end d))) (subst L (sym now) (has_activations (e.links r.end)
+          (slice_index_or after k s).journal.entries
+          (full.within (e.links r.end) (omega arith) (omega (arith, before, so_many)))));
     }
 
-pub broken_off : {E : Type 0} (e : Ends E) (orders_are : ℕ → Orders → Type 0) (bits : ℕ) (steps : List ℕ)
-    (seats after : List Seat) (links : List E) (f : BusFault) → length after ≡ length seats →
-    HaveRoom (room_for bits steps) seats → SeatStops e orders_are seats after links f →
+-- an item that was given back was so on the link that is read then, which is that of the activation that was open
+back_on : {E : Type 0} (e : Ends E) (k most : ℕ) (room : Room) (opened j : List Entry) (end : E) (f : BusFault) →
+    begun_in opened ≤ most → IsBrokenFor e k room opened j end f → f ≡ Stuck k → read_in j ≤ most
+back_on e k most room opened j end f begun broken is =
+    let F : BusFault → Type 0 = λ x. IsBrokenFor e k room opened j end x in
+    let back = (subst F is broken).1 in let was_open = back.was_open in
+    let ended = back.ended in omega (arith, begun, was_open, ended)
+
+pub broken_off : {E : Type 0} (e : Ends E) (orders_are : ℕ → Orders → Type 0) (starts bits : ℕ) (steps : List ℕ)
+    (seats after : List Seat) (links : List E) (f : BusFault) → ((x y : E) → e.same x y → e.links y ≡ e.links x) →
+    length after ≡ length seats → length links ≡ length seats → AreBegun starts seats →
+    HaveLinks e.links starts links → HaveRoom (room_for bits steps) seats →
+    SeatStops e orders_are seats after links f →
     IsBrokenOff e orders_are bits steps (journals_of seats) (journals_of after) links f
-broken_off e orders_are bits steps [] after links f len rooms r = let none = r.breaks.few in let c = r.count in
-    absurd (omega (arith, none, c))
-broken_off e orders_are bits steps (s ∷ seats) after links f len rooms r =
+broken_off e orders_are starts bits steps [] after links f same_links len ends begun many rooms r =
+    let none = r.breaks.few in let c = r.count in absurd (omega (arith, none, c))
+broken_off e orders_are starts bits steps (s ∷ seats) after links f same_links len ends begun many rooms r =
     let all = s ∷ seats in let cb = count_is all in let k = r.breaks.node in let there =
     r.breaks.few in let c = r.count in
     let few : k < length all = omega (arith, there, c) in
@@ -179,7 +192,14 @@ broken_off e orders_are bits steps (s ∷ seats) after links f len rooms r =
     let N : Room → Type 0 = λ n. IsBrokenFor e k n opened.journal.entries (slice_index_or after k s).journal.entries
     r.breaks.end f in
     let Q : List Entry → Type 0 = λ j. IsBrokenFor e k (room_for bits steps k) opened.journal.entries j r.breaks.end
-    f in record {
+    f in
+    let broken = subst Q (sym now) (subst N (r.rooms (room_for bits steps) rooms k s there) (r.breaks.broken s)) in
+    let here = many k r.breaks.end (omega (arith, ends, few)) in
+    let so_many : e.links r.breaks.end ≡ starts = ap e.links (sym (r.breaks.is_end r.breaks.end))
+    ∙ each_at e.same e.links same_links links r.between k r.breaks.end r.goes.sames ∙ here in
+    let within : begun_in opened.journal.entries ≤ e.links r.breaks.end =
+    let then = r.begins k s few r.breaks.end starts (omega (arith, here)) (begun k s few) in
+    omega (arith, then, so_many) in record {
       node = k;
       few = omega (arith, few, cb);
       opened = opened.journal.entries;
@@ -188,24 +208,27 @@ broken_off e orders_are bits steps (s ∷ seats) after links f len rooms r =
       opens = subst P (sym was) (r.opens k s few);
       kept = λ d h kept. let K : List Entry → Type 0 = λ j. Kept e.stands j (slice_index_or links k d) h in
           r.goes.kept k s d h few (subst K was kept);
-      within = λ d. let K : List Entry → Type 0 = λ j. BeginsWithin (e.links (slice_index_or links k d)) j
-          opened.journal.entries in
-          subst K (sym was) (r.begins k s few d);
       end = r.breaks.end;
       is_end = r.breaks.is_end;
-      broken = subst Q (sym now) (subst N (r.rooms (room_for bits steps) rooms k s there) (r.breaks.broken s));
+      within = has_activations (e.links r.breaks.end) opened.journal.entries within;
+      on_link = back_on e k (e.links r.breaks.end) (room_for bits steps k) opened.journal.entries
+          (journal_at (journals_of after) k) r.breaks.end f within broken;
+      broken = broken;
     }
 
 -- and of the bus
-pub stops_bit : {E : Type 0} (e : Ends E) (orders_are : ℕ → Orders → Type 0) (script : List Strike) (steps : List ℕ)
-    (run left bits : ℕ) (fault : Option BusFault) (seats after : List Seat) (links links_after : List E) (f : BusFault)
-    (now : BusValue) → now.journals ≡ journals_of after → run + left ≡ bits → length after ≡ length seats →
-    HaveRoom (room_for bits steps) seats →
+pub stops_bit : {E : Type 0} (e : Ends E) (orders_are : ℕ → Orders → Type 0) (script : List Strike) (starts : ℕ)
+    (steps : List ℕ) (run left bits : ℕ) (fault : Option BusFault) (seats after : List Seat)
+    (links links_after : List E) (f : BusFault) (now : BusValue) →
+    ((x y : E) → e.same x y → e.links y ≡ e.links x) → now.journals ≡ journals_of after → run + left ≡ bits →
+    length after ≡ length seats → length links ≡ length seats → AreBegun starts seats →
+    HaveLinks e.links starts links → HaveRoom (room_for bits steps) seats →
     (SeatRefuses e seats after links links_after f
     ⊎ SeatFull e orders_are seats after links links_after f)
     ⊎ SeatStops e orders_are seats after links f →
     StopsBit e orders_are (record {
       script = script;
+      starts = starts;
       steps = steps;
       run = run;
       left = left;
@@ -214,8 +237,8 @@ pub stops_bit : {E : Type 0} (e : Ends E) (orders_are : ℕ → Orders → Type 
           journals_of seats;
       untold = untold_of seats;
     }) now links links_after f
-stops_bit {E} e orders_are script steps run left bits fault seats after links links_after f now journals all len rooms
-    r = elim r [
+stops_bit {E} e orders_are script starts steps run left bits fault seats after links links_after f now same_links
+    journals all len ends begun many rooms r = elim r [
       | inl opening ↦ elim opening [
         | inl refused ↦
             let N : ℕ → Type 0 = λ n. IsTakenAndRefused e n steps (journals_of seats)
@@ -223,19 +246,19 @@ stops_bit {E} e orders_are script steps run left bits fault seats after links li
             let J : List (List Entry) → Type 0 = λ l. IsTakenAndRefused e (run + left) steps (journals_of seats)
             l links links_after f in
             not_taken_bit (subst J (sym journals) (subst N (sym all)
-            (not_taken e bits steps seats after links links_after f len rooms refused)))
+            (not_taken e starts bits steps seats after links links_after f len ends begun many rooms refused)))
         | inr aborting ↦
             let N : ℕ → Type 0 = λ n. IsNotAborted e orders_are n steps (journals_of seats)
             (journals_of after) links links_after f in
             let J : List (List Entry) → Type 0 = λ l. IsNotAborted e orders_are (run + left) steps
             (journals_of seats) l links links_after f in
-            not_aborted_bit (subst J (sym journals) (subst N (sym all)
-            (not_aborted e orders_are bits steps seats after links links_after f len rooms aborting)))
+            not_aborted_bit (subst J (sym journals) (subst N (sym all) (not_aborted e orders_are starts bits steps
+            seats after links links_after f len ends begun many rooms aborting)))
       ]
       | inr breaking ↦
           let was = journals_of seats in
           let N : ℕ → Type 0 = λ n. IsBrokenOff e orders_are n steps was (journals_of after) links f in
           let J : List (List Entry) → Type 0 = λ l. IsBrokenOff e orders_are (run + left) steps was l links f in
-          broken_off_bit (subst J (sym journals) (subst N (sym all)
-          (broken_off e orders_are bits steps seats after links f len rooms breaking)))
+          broken_off_bit (subst J (sym journals) (subst N (sym all) (broken_off e orders_are starts bits steps seats
+          after links f same_links len ends begun many rooms breaking)))
     ]

@@ -17,16 +17,18 @@ use Rattle.sja_link.specs.BusLedgers.{link_of}
 use Rattle.sja_wire.specs.declared.bus_fault.BusFault.{BusFault}
 use Rattle.sja_bus.specs.declared.seat.Seat.{Seat}
 use Rattle.sja_wire.specs.Wire.{journal_at}
-use Rattle.sja_link.specs.Links.{Kept}
+use Rattle.sja_link.specs.Links.{HaveLinks, Kept}
+use Rattle.sja_link.specs.Activations.{HasActivations}
 use Rattle.sja_link.specs.Opening.{BeginsWithin}
 use Rattle.sja_link.specs.OutOfOrder.{read_in}
 use Rattle.sja_link.specs.Inside.Moving.{Goes}
 use Rattle.sja_link.specs.BitEntries.{MayHaveItems}
-use Rattle.sja_wire.specs.Reasons.{IsRefusedFor, RefusesItem, IsTakenAndRefused, room_for}
+use Rattle.sja_link.proofs.Growing.Activations.{has_activations}
+use Rattle.sja_wire.specs.Reasons.{IsEndAt, IsRefusedFor, RefusesItem, IsTakenAndRefused, room_for}
 use Rattle.sja_bus.specs.Inside.Seats.{IsSound}
 use Rattle.sja_bus.specs.Inside.Taking.{RefusesHere}
 use Rattle.sja_bus.specs.Inside.Refusing.{HaveRoom, SeatRefuses}
-use Rattle.sja_bus.specs.Inside.Rows.{AreReady, GoesAll, Done, journals_of}
+use Rattle.sja_bus.specs.Inside.Rows.{AreBegun, AreReady, GoesAll, Done, journals_of}
 use Rattle.sja_bus.proofs.AllNodes.Running.{journal_is, count_is}
 
 -- an item that the link of the activation read showed, after other items
@@ -133,13 +135,21 @@ rooms_push n seats x is was k s few = elim (cases_eq k (length seats)) [
       ap (λ (y : Seat). y.journal.room) (get_or_append_left seats (x ∷ []) s k near) ∙ was k s near
 ]
 
--- the same by the journals of all
-pub not_taken : {E : Type 0} (e : Ends E) (bits : ℕ) (steps : List ℕ) (seats after : List Seat)
-    (links links_after : List E) (f : BusFault) → length after ≡ length seats →
-    HaveRoom (room_for bits steps) seats → SeatRefuses e seats after links links_after f →
+-- ---- by the journals of all
+
+-- how many links an end has that is at a place
+pub links_at : {E : Type 0} (links_of : E → ℕ) (starts : ℕ) (links : List E) (k : ℕ) (end : E) →
+    HaveLinks links_of starts links → k < length links → IsEndAt links k end → links_of end ≡ starts
+links_at links_of starts links k end many few is = ap links_of (sym (is end)) ∙ many k end few
+
+pub not_taken : {E : Type 0} (e : Ends E) (starts bits : ℕ) (steps : List ℕ) (seats after : List Seat)
+    (links links_after : List E) (f : BusFault) → length after ≡ length seats → length links ≡ length seats →
+    AreBegun starts seats → HaveLinks e.links starts links → HaveRoom (room_for bits steps) seats →
+    SeatRefuses e seats after links links_after f →
     IsTakenAndRefused e bits steps (journals_of seats) (journals_of after) links links_after f
-not_taken e bits steps [] after links links_after f len rooms r = let none = r.few in absurd (omega (arith, none))
-not_taken e bits steps (s ∷ seats) after links links_after f len rooms r =
+not_taken e starts bits steps [] after links links_after f len ends begun many rooms r =
+    let none = r.few in absurd (omega (arith, none))
+not_taken e starts bits steps (s ∷ seats) after links links_after f len ends begun many rooms r =
     let all = s ∷ seats in let cb = count_is all in let k = r.node in let few = r.few in
     let was = slice_index_or all k s in let now = slice_index_or after k s in
     let P : List Entry → Type 0 = λ j. RefusesItem e (room_for bits steps k) j (journal_at (journals_of after) k)
@@ -147,6 +157,9 @@ not_taken e bits steps (s ∷ seats) after links links_after f len rooms r =
     let Q : List Entry → Type 0 = λ j. RefusesItem e (room_for bits steps k) was.journal.entries j r.end
     r.end_after k f in
     let N : Room → Type 0 = λ n. RefusesItem e n was.journal.entries now.journal.entries r.end r.end_after k f in
+    let is = journal_is after k s (omega (arith, few, len)) in
+    let so_many = links_at e.links starts links k r.end many (omega (arith, ends, few)) r.is_end in
+    let before = begun k s few in
     record {
       node = k;
       few = omega (arith, few, cb);
@@ -154,6 +167,7 @@ not_taken e bits steps (s ∷ seats) after links links_after f len rooms r =
       is_end = r.is_end;
       end_after = r.end_after;
       is_after = r.is_after;
-      refuses = subst P (sym (journal_is all k s few)) (subst Q (sym (journal_is after k s (omega (arith, few, len))))
-          (subst N (rooms k s few) (r.refuses s)));
+      within = subst (HasActivations (e.links r.end)) (sym is) (has_activations (e.links r.end) now.journal.entries
+          ((r.refuses s).within (e.links r.end) (omega arith) (omega (arith, before, so_many))));
+      refuses = subst P (sym (journal_is all k s few)) (subst Q (sym is) (subst N (rooms k s few) (r.refuses s)));
     }

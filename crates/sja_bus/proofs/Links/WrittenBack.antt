@@ -8,10 +8,9 @@ use Rattle.lemmas.specs.Related.{EachRelated}
 use Rattle.sja_bus.specs.declared.board.Board.{Ghosts as Ports}
 use Rattle.sja_bus.specs.declared.seat.Seat.{Seat}
 use Rattle.sja_bus.specs.Boards.{KeepsOthers}
-use Rattle.sja_wire.specs.Buses.{BusValue, EachBeginsWithin, KeepsAll}
+use Rattle.sja_wire.specs.Buses.{BusValue, KeepsAll}
 use Rattle.sja_bus.specs.Moment.{moment, Keeps}
-use Rattle.sja_bus.specs.Inside.Rows.{journals_of, EachSeat, GoesAll, SeatBegins}
-use Rattle.sja_bus.proofs.AllNodes.Begins.{all_begin}
+use Rattle.sja_bus.specs.Inside.Rows.{journals_of, GoesAll}
 use Rattle.sja_bus.proofs.AllNodes.Journals.{keeps_all}
 use Rattle.sja_bus.proofs.AllNodes.Running.{count_is}
 
@@ -34,27 +33,14 @@ keeps_back same stands was lent now n journals links after all is count seen goe
     subst Q (sym (are_back was now n all len))
     (subst P seen (keeps_all same stands was now links after len (subst G is goes)))
 
--- no activation began whose link its end doesn't have, where it was so seat by seat
-pub begins_back : {E : Type 0} (links_of : E → ℕ) (links : List E) (was lent now : List Seat) (n : ℕ)
-    (journals : List (List Entry)) → n ≡ length was → lent ≡ was → length now ≡ length lent →
-    journals_of was ≡ journals → EachSeat (SeatBegins links_of links) lent now →
-    EachBeginsWithin links_of journals (journals_of (take n (now ++ drop (length now) was))) links
-begins_back links_of links was lent now n journals all is count seen begins =
-    let len : length now ≡ length was = count ∙ ap (λ (l : List Seat). length l) is in
-    let G : List Seat → Type 0 = λ l. EachSeat (SeatBegins links_of links) l now in
-    let P : List (List Entry) → Type 0 = λ l. EachBeginsWithin links_of l (journals_of now) links in
-    let Q : List Seat → Type 0 = λ l. EachBeginsWithin links_of journals (journals_of l) links in
-    subst Q (sym (are_back was now n all len))
-    (subst P seen (all_begin links_of links was now len (subst G is begins)))
-
--- the ends, the other ports, the script, the room for steps and the number of nodes are as they were, where they were
--- so seat by seat
+-- the ends, the other ports, the script, the number of links, the room for steps and the number of nodes are as they
+-- were, where they were so seat by seat
 pub keeps_still : {E B : Type 0} (e : Ends E) (b : Ports B) (was lent now : List Seat) (n : ℕ) (old new : BusValue)
     (links after : List E) (board told : B) → n ≡ length was → lent ≡ was → length now ≡ length lent →
-    journals_of was ≡ old.journals → new.script ≡ old.script → new.steps ≡ old.steps →
+    journals_of was ≡ old.journals → new.script ≡ old.script → new.starts ≡ old.starts → new.steps ≡ old.steps →
     new.journals ≡ journals_of (take n (now ++ drop (length now) was)) → EachRelated e.same links after →
     KeepsOthers b.ports b.kept (length lent) board told → Keeps e b (moment old links board) (moment new after told)
-keeps_still e b was lent now n old new links after board told all is count seen script steps back sames others =
+keeps_still e b was lent now n old new links after board told all is count seen script starts steps back sames others =
     let same : length lent ≡ length was = ap (λ (l : List Seat). length l) is in
     let nodes : length was ≡ length old.journals =
     sym (count_is was) ∙ ap (λ (l : List (List Entry)). length l) seen in
@@ -62,6 +48,7 @@ keeps_still e b was lent now n old new links after board told all is count seen 
       sames = sames;
       others = subst O (same ∙ nodes) others;
       script = script;
+      starts = starts;
       steps = steps;
       nodes = ap (λ (l : List (List Entry)). length l) back
           ∙ ap (λ (l : List Seat). length (journals_of l)) (are_back was now n all (count ∙ same)) ∙ count_is now

@@ -21,7 +21,7 @@ use Rattle.sja_bus.specs.declared.seat.Seat.{Seat}
 use Rattle.sja_bus.specs.Inside.StrikesByBit.{nobody}
 use Rattle.sja_bus.specs.Several.{AreBits}
 use Rattle.sja_bus.specs.Inside.Refusing.{AreFree, HaveRoom}
-use Rattle.sja_bus.specs.Inside.Rows.{AreReady, AreTold, EachSeat, GoesAll, IsBus, SeatTurns, driven_by}
+use Rattle.sja_bus.specs.Inside.Rows.{AreBegun, AreReady, AreTold, EachSeat, GoesAll, IsBus, SeatTurns, driven_by}
 use Rattle.sja_bus.specs.Inside.Rows.{SeatHasBits, seen_by}
 use Rattle.sja_bus.specs.UntilTold.{WorksUntold}
 use Rattle.sja_bus.specs.Inside.RunningOn.{AnyBit, NoneAborts, moment_of}
@@ -29,7 +29,7 @@ use Rattle.sja_bus.specs.Inside.Together.{AreQuietRows, IsQuietRow, RunsTogether
 use Rattle.sja_bus.specs.Inside.Turning.{IsQuietBit}
 use Rattle.sja_bus.specs.Inside.Together.AreQuietRows.{no_row, one_more}
 use Rattle.sja_bus.proofs.AllNodes.RunningOn.{passes}
-use Rattle.sja_bus.proofs.AllNodes.Begins.{begins_bit}
+use Rattle.sja_bus.proofs.AllNodes.Begins.{begun_bits, begun_turned}
 use Rattle.sja_bus.proofs.AllNodes.BitAfterBit.{bits_on}
 use Rattle.sja_bus.proofs.AllNodes.UntilTold.{row_bits, works_untold}
 use Rattle.sja_bus.proofs.AtPorts.TurnsTold.{quiet_turns}
@@ -130,10 +130,10 @@ pub record IsAfter {E B : Type 0} (e : Ends E) (b : Ports B) (to_rest : Bool) (s
   pub count : length seats ≡ length begun
   pub bus : IsBus script (from + run) seats
   pub more : EachSeat SeatHasBits begun seats
-  pub bits : (steps : List ℕ) (left : ℕ) → most ≤ left →
-      AreBits (AnyBit e b) (WorksUntold to_rest (moment_of script steps from left begun given first))
-      (moment_of script steps from left begun given first) run
-      (moment_of script steps (from + run) (left - run) seats links board)
+  pub bits : (starts : ℕ) (steps : List ℕ) (left : ℕ) → AreBegun starts begun → most ≤ left →
+      AreBits (AnyBit e b) (WorksUntold to_rest (moment_of script starts steps from left begun given first))
+      (moment_of script starts steps from left begun given first) run
+      (moment_of script starts steps (from + run) (left - run) seats links board)
 
 module _ {E B : Type 0} (e : Ends E) (b : Ports B) (same_refl : (x : E) → e.same x x)
     (kept_refl : (x : B) (m : ℕ) → b.kept x x m) (to_rest : Bool) (script : List Strike) (from most : ℕ)
@@ -156,16 +156,18 @@ module _ {E B : Type 0} (e : Ends E) (b : Ports B) (same_refl : (x : E) → e.sa
         count = row.count ∙ count;
         bus = next;
         more = row_bits to_rest begun seats after count far.bus.ready far.more row;
-        bits = λ steps left enough.
-            let was = moment_of script steps from left begun given first in
-            bits_on e b (WorksUntold to_rest was) was script steps from run most left nobody seats after
+        bits = λ starts steps left none enough.
+            let was = moment_of script starts steps from left begun given first in
+            bits_on e b (WorksUntold to_rest was) was script starts steps from run most left nobody seats after
             links links board board early enough row.count pass.few pass.at pass.row
             (each_refl e.same same_refl links) (refl, λ m far. kept_refl board m)
             (row_goes e.same e.stands same_refl to_rest seats after links row)
-            (begins_bit e.links links told kept nobody (wired (driven_by seats)) seats after turns) far.bus next
+            (begun_turned starts told kept nobody (wired (driven_by seats)) seats after row.count turns
+            (begun_bits starts begun seats count far.more none)) far.bus next
             (λ k low. facts k (omega (arith, low, count)))
-            (works_untold to_rest script steps from (from + run) left (left - run) begun seats given links first board
-            far.bus.ready row.works still count far.more) (far.bits steps left enough);
+            (works_untold to_rest script starts steps from (from + run) left (left - run) begun seats given links
+            first board
+            far.bus.ready row.works still count far.more) (far.bits starts steps left none enough);
       }
 
   pub rows_on : (run : ℕ) (seats : List Seat) (n : ℕ) (after : List Seat) → run + n ≤ most →

@@ -19,10 +19,8 @@ use Rattle.sja_link.specs.Links.{Kept, stops_in, stops_of}
 use Rattle.sja_wire.specs.declared.bus_fault.BusFault.{BusFault}
 use Rattle.sja_link.specs.BitEntries.{MayHaveItems, entries_of_items}
 use Rattle.sja_wire.specs.Telling.{IsUntold}
-use Rattle.sja_wire.specs.Buses.{EachBeginsWithin, EachJournal, EachUntold, KeepsAll, AllDry, untold_at, IsNodeBit}
+use Rattle.sja_wire.specs.Buses.{EachJournal, EachUntold, KeepsAll, AllDry, untold_at, IsNodeBit}
 use Rattle.sja_wire.specs.Buses.{IsBit}
-use Rattle.sja_link.specs.Opening.{begun_in}
-use Rattle.sja_link.proofs.Growing.Begins.{begins_none, begun_push}
 use Rattle.sja_bus.specs.Stretches.{recessive_bits, with_recessive, IsStretch}
 use Rattle.sja_link.proofs.Growing.Moving.{account_quiet}
 use Rattle.sja_bus.proofs.Resting.AtRest.{one_more}
@@ -116,22 +114,6 @@ stops_still (suc n) j =
     total_push stops_in (j ++ recessive_bits n) (Bit Recessive Recessive) in
     let b = stops_still n j in let c = ap stops_of (one_more n j) in omega (arith, a, b, c)
 
--- and no activation began
-begun_still : (n : ℕ) (j : List Entry) → begun_in (j ++ recessive_bits n) ≡ begun_in j
-begun_still zero j = ap begun_in (append-nil j)
-begun_still (suc n) j =
-    ap begun_in (sym (one_more n j)) ∙ begun_push (j ++ recessive_bits n) (Bit Recessive Recessive) (λ p. refl)
-    ∙ begun_still n j
-
-pub begins_longer : {E : Type 0} (links_of : E → ℕ) (n : ℕ) (before mid after : List (List Entry)) (links : List E) →
-    length mid ≡ length before → after ≡ with_recessive n mid → EachBeginsWithin links_of before mid links →
-    EachBeginsWithin links_of before after links
-begins_longer links_of n before mid after links len grown begins node d few most far was =
-    let is : journal_at after node ≡ journal_at mid node ++ recessive_bits n = ap (λ l. journal_at l node) grown
-    ∙ longer_at n mid node (omega (arith, few, len)) in
-    begins_none (links_of (slice_index_or links node d)) (journal_at mid node) (journal_at after node)
-    (ap begun_in is ∙ begun_still n (journal_at mid node)) most far (begins node d few most far was)
-
 -- they stand for the journals still
 pub keeps_longer : {E : Type 0} (stands : E → ℕ → Lists → Type 0) (n : ℕ) (before mid after : List (List Entry))
     (links links_after : List E) → length mid ≡ length before →
@@ -176,21 +158,6 @@ keeps_rest orders_are was_told was_kept stands script run untold (Ok (suc n)) be
     keeps_longer stands (suc n) before mid after links links_after len (h (λ z. absurd (omega (arith, z)))).grown keeps
 keeps_rest orders_are was_told was_kept stands script run untold (Err f) before mid after links
     links_after len none h keeps = tt
-
-pub begins_rest : {E : Type 0} (orders_are : ℕ → Orders → Type 0) (was_told : ℕ → BusTurn → Type 0)
-    (was_kept : ℕ → Type 0) (links_of : E → ℕ) (script : List Strike) (run : ℕ) (untold : List Bool)
-    (r : Result ℕ BusFault) (before mid after : List (List Entry)) (links : List E) → length mid ≡ length before →
-    (r ≡ Ok 0 → after ≡ mid) →
-    IfOk r (λ n. n ≢ 0 → IsStretch orders_are was_told was_kept script run n untold mid after) →
-    EachBeginsWithin links_of before mid links → OnOk r (EachBeginsWithin links_of before after links)
-begins_rest orders_are was_told was_kept links_of script run untold (Ok zero) before mid after links len none h begins =
-    let P : List (List Entry) → Type 0 = λ l. EachBeginsWithin links_of before l links in
-    subst P (sym (none refl)) begins
-begins_rest orders_are was_told was_kept links_of script run untold (Ok (suc n)) before mid after links len none h
-    begins =
-    begins_longer links_of (suc n) before mid after links len (h (λ z. absurd (omega (arith, z)))).grown begins
-begins_rest orders_are was_told was_kept links_of script run untold (Err f) before mid after links len none h begins =
-    tt
 
 pub dry_rest : {E : Type 0} (orders_are : ℕ → Orders → Type 0) (was_told : ℕ → BusTurn → Type 0) (was_kept : ℕ → Type 0)
     (dry : E → ℕ → Type 0) (script : List Strike) (run : ℕ) (untold : List Bool) (r : Result ℕ BusFault)

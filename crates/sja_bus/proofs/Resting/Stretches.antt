@@ -1,17 +1,22 @@
 -- Bits in which every node is at rest.
-use Rattle.std.proofs.Common.{◌≡◌, ℕ, zero, suc, ◌+◌, ◌<◌, List, [], ◌∷◌, ◌++◌, length, refl, sym, ap, ◌∙◌, arith}
+use Rattle.std.proofs.Common.{◌≡◌, ℕ, zero, suc, ◌+◌, ◌<◌, List, [], ◌∷◌, ◌++◌, length, refl, sym, ap}
+use Rattle.std.proofs.Common.{◌∙◌, append-nil, arith}
 use Rattle.std.specs.Prelude.{slice_index_or}
 use Rattle.std.proofs.lemmas.List.{length-map}
 use Rattle.can_bits.specs.declared.level.Level.TheVariants.{Recessive}
+use Rattle.sja_link.specs.declared.entry.Entry.{Entry}
+use Rattle.sja_link.specs.declared.entry.Entry.TheVariants.{Bit}
+use Rattle.sja_link.specs.Opening.{begun_in}
 use Rattle.sja_link.specs.Written.{Room}
+use Rattle.sja_link.proofs.Growing.Begins.{begun_push}
 use Rattle.sja_bus.specs.declared.seat.Seat.{Seat}
 use Rattle.sja_wire.specs.Wire.{wired}
 use Rattle.sja_bus.specs.Stretches.{recessive_bits, with_recessive}
 use Rattle.sja_bus.specs.Inside.Turning.{is_untold}
-use Rattle.sja_bus.specs.Inside.Rows.{journals_of, untold_of, driven_by}
+use Rattle.sja_bus.specs.Inside.Rows.{AreBegun, journals_of, untold_of, driven_by}
 use Rattle.sja_bus.specs.Inside.Idling.{after_bits, all_after}
 use Rattle.sja_bus.specs.Inside.Refusing.{HaveRoom}
-use Rattle.sja_bus.proofs.Resting.AtRest.{after_none}
+use Rattle.sja_bus.proofs.Resting.AtRest.{after_none, one_more}
 
 -- ---- all seats after so many bits
 
@@ -55,6 +60,20 @@ pub room_after : (n : ℕ) (room : ℕ → Room) (seats : List Seat) → HaveRoo
 room_after n room seats h k s few =
     let c = after_count n seats in let near : k < length seats = omega (arith, few, c) in
     ap (λ (x : Seat). x.journal.room) (after_at n seats k s near) ∙ h k s near
+
+-- no activation began
+begun_still : (n : ℕ) (j : List Entry) → begun_in (j ++ recessive_bits n) ≡ begun_in j
+begun_still zero j = ap begun_in (append-nil j)
+begun_still (suc n) j =
+    ap begun_in (sym (one_more n j)) ∙ begun_push (j ++ recessive_bits n) (Bit Recessive Recessive) (λ p. refl)
+    ∙ begun_still n j
+
+pub begun_after : (n starts : ℕ) (seats : List Seat) → AreBegun starts seats → AreBegun starts (all_after n seats)
+begun_after n starts seats begun k s few =
+    let c = after_count n seats in let near : k < length seats = omega (arith, few, c) in
+    let is = ap (λ (x : Seat). begun_in x.journal.entries) (after_at n seats k s near)
+    ∙ begun_still n (slice_index_or seats k s).journal.entries in
+    let was = begun k s near in omega (arith, is, was)
 
 pub after_wired : (n : ℕ) (seats : List Seat) → ((k : ℕ) (s : Seat) → k < length seats →
     (slice_index_or seats k s).drives ≡ Recessive) → Recessive ≡ wired (driven_by (all_after n seats))

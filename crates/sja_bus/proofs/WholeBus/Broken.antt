@@ -10,18 +10,19 @@ use Rattle.sja_bus.specs.Inside.Refusing.{HaveRoom}
 use Rattle.sja_bus.specs.Inside.Whole.{IsWhole}
 
 -- it is whole with its fault: it has as many nodes, with the room that they had
-pub whole_broken : (struck : Scripted) (steps : List ℕ) (run left now less : ℕ) (fault : Option BusFault)
+pub whole_broken : (struck : Scripted) (starts : ℕ) (steps : List ℕ) (run left now less : ℕ) (fault : Option BusFault)
     (f : BusFault) (seats after : List Seat) (room : ℕ) → length after ≡ length seats → run ≤ now →
     now + less ≡ run + left →
-    ((n : ℕ → Room) → HaveRoom n seats → HaveRoom n after) → IsWhole struck steps run left fault seats room →
-    IsWhole struck steps now less (Some f) after room
-whole_broken struck steps run left now less fault f seats after room count later all rooms was =
+    ((n : ℕ → Room) → HaveRoom n seats → HaveRoom n after) → IsWhole struck starts steps run left fault seats room →
+    IsWhole struck starts steps now less (Some f) after room
+whole_broken struck starts steps run left now less fault f seats after room count later all rooms was =
     let few = was.few in let bits = was.bits in let logs = was.logs in let asked = was.asked in record {
       few = omega (arith, few, count);
       bits = omega (arith, all, bits);
       most = was.most;
       asked = omega (arith, asked, later);
       bus = λ wrong. absurd cc;
+      begun = λ wrong. absurd cc;
       logs = omega (arith, logs, count);
       rooms = rooms (room_for struck.bits steps) was.rooms;
     }

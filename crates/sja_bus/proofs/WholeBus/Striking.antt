@@ -55,12 +55,12 @@ bus_before script s run seats later was = record {
 }
 
 -- the bus is whole, whether the strike was taken or not
-pub whole_after : {A X : Type 0} (struck now : Scripted) (steps : List ℕ) (run left : ℕ) (fault : Option BusFault)
-    (seats : List Seat) (room : ℕ) (s : Strike) (r : Result A X) → run ≤ s.bit →
+pub whole_after : {A X : Type 0} (struck now : Scripted) (starts : ℕ) (steps : List ℕ) (run left : ℕ)
+    (fault : Option BusFault) (seats : List Seat) (room : ℕ) (s : Strike) (r : Result A X) → run ≤ s.bit →
     OnOk r (now.script ≡ struck.script ++ s ∷ []) → OnOk r (now.bits ≡ struck.bits) → OnOk r (now.from ≤ run) →
-    OnErr r (now ≡ struck) → IsWhole struck steps run left fault seats room →
-    IsWhole now steps run left fault seats room
-whole_after struck now steps run left fault seats room s (Ok done) later is same on kept was =
+    OnErr r (now ≡ struck) → IsWhole struck starts steps run left fault seats room →
+    IsWhole now starts steps run left fault seats room
+whole_after struck now starts steps run left fault seats room s (Ok done) later is same on kept was =
     let B : List Strike → Type 0 = λ l. IsBus l run seats in
     let R : ℕ → Type 0 = λ n. HaveRoom (room_for n steps) seats in
     let bits = was.bits in let most = was.most in record {
@@ -69,8 +69,9 @@ whole_after struck now steps run left fault seats room s (Ok done) later is same
       most = omega (arith, most, same);
       asked = on;
       bus = λ none. subst B (sym is) (bus_before struck.script s run seats later (was.bus none));
+      begun = was.begun;
       logs = was.logs;
       rooms = subst R (sym same) was.rooms;
     }
-whole_after struck now steps run left fault seats room s (Err e) later is same on kept was =
-    let W : Scripted → Type 0 = λ x. IsWhole x steps run left fault seats room in subst W (sym kept) was
+whole_after struck now starts steps run left fault seats room s (Err e) later is same on kept was =
+    let W : Scripted → Type 0 = λ x. IsWhole x starts steps run left fault seats room in subst W (sym kept) was

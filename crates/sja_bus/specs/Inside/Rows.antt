@@ -18,7 +18,7 @@ use Rattle.sja_bus.specs.declared.seat.Seat.{Seat}
 use Rattle.sja_bus.specs.UntilTold.{HasBitsMore}
 use Rattle.sja_wire.specs.Wire.{IsWired}
 use Rattle.sja_link.specs.Links.{Kept, Grows, AreEnds}
-use Rattle.sja_link.specs.Opening.{BeginsWithin}
+use Rattle.sja_link.specs.Opening.{BeginsWithin, begun_in}
 use Rattle.sja_wire.specs.Opens.{Opens}
 use Rattle.sja_link.specs.BitEntries.{MayHaveItems}
 use Rattle.sja_bus.specs.Inside.Seats.{IsReady}
@@ -113,6 +113,11 @@ AreTold seats = (k : ℕ) (s : Seat) → k < length seats → (slice_index_or se
 -- no request was dropped since the last bit
 abbrev pub AreCalm : List Seat → Type 0
 AreCalm seats = (k : ℕ) (s : Seat) → k < length seats → (slice_index_or seats k s).untold ≢ Dropped
+
+-- of each no more activations have begun than there are links for
+abbrev pub AreBegun : ℕ → List Seat → Type 0
+AreBegun starts seats =
+    (k : ℕ) (s : Seat) → k < length seats → begun_in (slice_index_or seats k s).journal.entries ≤ starts
 
 -- the seats are ready, and their journals are of one wire
 pub record IsBus (script : List Strike) (bits : ℕ) (seats : List Seat) : Type 0 where

@@ -14,14 +14,14 @@ use Rattle.sja_wire.specs.declared.bus_fault.BusFault.{BusFault}
 use Rattle.sja_bus.specs.declared.seat.Seat.{Seat}
 use Rattle.sja_bus.specs.declared.struck_nodes.StruckNodes.{StruckNodes}
 use Rattle.sja_wire.specs.Buses.{BusValue}
-use Rattle.sja_link.specs.Links.{AreEnds}
+use Rattle.sja_link.specs.Links.{AreEnds, HaveLinks}
 use Rattle.sja_wire.specs.Reasons.{room_for}
 use Rattle.sja_bus.specs.Moment.{Moment, Keeps, OneBit}
 use Rattle.sja_bus.specs.Several.{AreBits, BreaksOff}
 use Rattle.sja_bus.specs.UntilTold.{IsLastTurn, WorksUntold}
 use Rattle.sja_bus.specs.Inside.Refusing.{AreFree, HaveRoom}
 use Rattle.sja_bus.specs.Inside.Turning.{IsIdleBit, is_untold}
-use Rattle.sja_bus.specs.Inside.Rows.{AreTold, EachSeat, IsBus, SeatHasBits, journals_of, seen_by, untold_of}
+use Rattle.sja_bus.specs.Inside.Rows.{AreBegun, AreTold, EachSeat, IsBus, SeatHasBits, journals_of, seen_by, untold_of}
 use Rattle.sja_bus.specs.declared.port_news.PortNews.TheVariants.{Nothing}
 use Rattle.can_bits.specs.declared.level.Level.{Level}
 
@@ -82,10 +82,11 @@ pub record MayRunOn {B : Type 0} (b : Ports B) (board : B) (seats : List Seat) :
   pub facts : (k : ℕ) → k < length seats → b.facts board k
 
 -- what a contract sees of a bus with these seats and without a fault
-abbrev pub bus_of : List Strike → List ℕ → ℕ → ℕ → List Seat → BusValue
-bus_of script steps run left seats =
+abbrev pub bus_of : List Strike → ℕ → List ℕ → ℕ → ℕ → List Seat → BusValue
+bus_of script starts steps run left seats =
     record {
       script = script;
+      starts = starts;
       steps = steps;
       run = run;
       left = left;
@@ -95,9 +96,9 @@ bus_of script steps run left seats =
     }
 
 -- the same with its links and its ports
-abbrev pub moment_of : {E B : Type 0} → List Strike → List ℕ → ℕ → ℕ → List Seat → List E → B → Moment E B
-moment_of script steps run left seats links board =
-    record { bus = bus_of script steps run left seats; links = links; board = board }
+abbrev pub moment_of : {E B : Type 0} → List Strike → ℕ → List ℕ → ℕ → ℕ → List Seat → List E → B → Moment E B
+moment_of script starts steps run left seats links board =
+    record { bus = bus_of script starts steps run left seats; links = links; board = board }
 
 -- a bit of whatever number, of which it isn't asked what was taken before it
 abbrev pub AnyBit : {E B : Type 0} → Ends E → Ports B → ℕ → Moment E B → Moment E B → Type 0
@@ -117,38 +118,43 @@ pub record RowsEnd (was_told : ℕ → BusTurn → Type 0) (to_rest : Bool) (scr
   pub none : n ≡ 0 → RowsRunNone to_rest script from most was
   pub why : RowsRunNone to_rest script (from + n) (most - n) now ⊎ SomeTold was_told now
 
--- so many of these bits, whatever the room for steps is and however many are left that are enough, and the bus after
--- them: each journal has the room that it had, and in none of the bits the script strikes one of eight nodes
+-- so many of these bits, whatever the room for steps is, for however many activations there are links, and however many
+-- bits are left, where these are enough; and the bus after them: each journal has the room that it had, no activation
+-- began beyond the links, and in none of the bits the script strikes one of eight nodes
 pub record RowsRun {E B : Type 0} (e : Ends E) (b : Ports B) (to_rest : Bool) (script : List Strike) (from most : ℕ)
     (was now : List Seat) (links after : List E) (board told : B) (n : ℕ) : Type 0 where
   pub bus : IsBus script (from + n) now
+  pub begun : (starts : ℕ) → AreBegun starts was → AreBegun starts now
   pub rooms : (room : ℕ → Room) → HaveRoom room was → HaveRoom room now
   pub unstruck : (i node : ℕ) → i < n → node < 8 → Strikes script (from + i) node → ⊥
-  pub bits : (steps : List ℕ) (left : ℕ) → most ≤ left →
-      AreBits (AnyBit e b) (WorksUntold to_rest (moment_of script steps from left was links board))
-      (moment_of script steps from left was links board) n
-      (moment_of script steps (from + n) (left - n) now after told)
+  pub bits : (starts : ℕ) (steps : List ℕ) (left : ℕ) → AreBegun starts was → most ≤ left →
+      AreBits (AnyBit e b) (WorksUntold to_rest (moment_of script starts steps from left was links board))
+      (moment_of script starts steps from left was links board) n
+      (moment_of script starts steps (from + n) (left - n) now after told)
 
 -- fewer than so many, and then one that broke off: so for every bus that counts just the bits before it
 abbrev pub RowsStop : {E B : Type 0} → Ends E → Ports B → Bool → List Strike → ℕ → ℕ → List Seat → List Seat → List E →
     List E → B → B → BrokenBit → Type 0
 RowsStop e b to_rest script from most was now links after board told f =
-    (steps : List ℕ) (left : ℕ) (bus : BusValue) → most ≤ left → HaveRoom (room_for (from + left) steps) was →
-    bus.journals ≡ journals_of now → bus.run ≡ from + f.after → bus.left ≡ left - f.after →
+    (starts : ℕ) (steps : List ℕ) (left : ℕ) (bus : BusValue) → AreBegun starts was → HaveLinks e.links starts links →
+    most ≤ left → HaveRoom (room_for (from + left) steps) was → bus.journals ≡ journals_of now →
+    bus.run ≡ from + f.after → bus.left ≡ left - f.after →
     BreaksOff e b.orders_are (AnyBit e b)
-    (WorksUntold to_rest (moment_of script steps from left was links board)) most
-    (moment_of script steps from left was links board) (record { bus = bus; links = after; board = told }) f.fault
+    (WorksUntold to_rest (moment_of script starts steps from left was links board)) most
+    (moment_of script starts steps from left was links board) (record { bus = bus; links = after; board = told })
+    f.fault
 
 -- ---- by the bus
 
--- ends of links and ports for so many nodes
-pub record AreFor {E : Type 0} (node_of : E → ℕ) (links : List E) (nodes boards : ℕ) : Type 0 where
-  pub ends : AreEnds node_of nodes links
+-- ends, each with links for so many activations, and ports for so many nodes
+pub record AreFor {E : Type 0} (e : Ends E) (links : List E) (nodes starts boards : ℕ) : Type 0 where
+  pub ends : AreEnds e.node nodes links
+  pub many : HaveLinks e.links starts links
   pub ports : nodes ≤ boards
 
 -- a bus without a fault, of which so many bits are left, with links and ports for its nodes
-pub record MayRunBits {E : Type 0} (node_of : E → ℕ) (bus : BusValue) (links : List E) (boards n : ℕ) : Type 0 where
-  pub fit : AreFor node_of links (length bus.journals) boards
+pub record MayRunBits {E : Type 0} (e : Ends E) (bus : BusValue) (links : List E) (boards n : ℕ) : Type 0 where
+  pub fit : AreFor e links (length bus.journals) bus.starts boards
   pub right : bus.fault ≡ None
   pub most : n ≤ bus.left
 

@@ -10,17 +10,19 @@ use Rattle.sja_bus.specs.Inside.StrikesByBit.{Scripted}
 use Rattle.sja_wire.specs.Wire.{wired}
 use Rattle.sja_wire.specs.Reasons.{room_for}
 use Rattle.sja_bus.specs.Inside.Refusing.{HaveRoom}
-use Rattle.sja_bus.specs.Inside.Rows.{IsBus, EachSeat, SeatOpens, driven_by, SeatOpensUntold, SeatTurns}
+use Rattle.sja_bus.specs.Inside.Rows.{AreBegun, IsBus, EachSeat, SeatOpens, driven_by, SeatOpensUntold, SeatTurns}
 
 -- one to eight nodes with room for all bits and for so many steps of each driver, as many bits as it is known whom the
--- script strikes, which is asked of no bit that has run, and while there is no fault a bus
-pub record IsWhole (struck : Scripted) (steps : List ℕ) (run left : ℕ) (fault : Option BusFault) (seats : List Seat)
-    (room : ℕ) : Type 0 where
+-- script strikes, which is asked of no bit that has run; and while there is no fault a bus, of whose nodes no more
+-- activations have begun than there are links for
+pub record IsWhole (struck : Scripted) (starts : ℕ) (steps : List ℕ) (run left : ℕ) (fault : Option BusFault)
+    (seats : List Seat) (room : ℕ) : Type 0 where
   pub few : length seats ≤ 8
   pub bits : run + left ≡ struck.bits
   pub most : struck.bits ≤ 2 ^ 62
   pub asked : struck.from ≤ run
   pub bus : fault ≡ None → IsBus struck.script run seats
+  pub begun : fault ≡ None → AreBegun starts seats
   pub logs : length seats ≤ room
   pub rooms : HaveRoom (room_for struck.bits steps) seats
 

@@ -1,6 +1,7 @@
 use Rattle.std.proofs.Common.{◌≡◌, ℕ, ◌+◌, ◌-◌, ◌<◌, ◌≤◌, false, true, List, length, rules, arith, refl, sym, ap, ◌∙◌}
 use Rattle.std.proofs.Common.{subst, inr}
 use Rattle.sja_script.specs.Striking.{Strikes}
+use Rattle.std.proofs.lemmas.Slice.Zip.{AllZip-long as each_length}
 use Rattle.lemmas.proofs.Related.{each_refl, each_trans}
 use Rattle.sja_wire.specs.Wire.{wired}
 use Rattle.sja_wire.specs.Reasons.{room_for}
@@ -12,7 +13,8 @@ use Rattle.sja_bus.specs.UntilTold.{WorksUntold}
 use Rattle.sja_bus.specs.Inside.RunningOn.{moment_of, AnyBit, RowsRun, SomeTold}
 use Rattle.sja_bus.proofs.AllNodes.Rows.{seated_on}
 use Rattle.sja_bus.proofs.AllNodes.RunningOn.{passes, none_still, others_now, others_still}
-use Rattle.sja_bus.proofs.AllNodes.Begins.{begins_bit}
+use Rattle.sja_bus.proofs.AllNodes.Many.{links_kept}
+use Rattle.sja_bus.proofs.AllNodes.Begins.{begun_bits, begun_turned}
 use Rattle.sja_bus.proofs.AllNodes.BitAfterBit.{facts_of_bit, none_yet, bits_on, stops_on}
 use Rattle.sja_bus.proofs.AllNodes.UntilTold.{seats_then, works_untold}
 use Rattle.sja_bus.proofs.OneReader.Ending.{ends_full, ends_untold, full_first, full_on}
@@ -55,17 +57,22 @@ runs_more g c =
       bus = next;
       rooms = λ n h. c.sample_all.ensures.rooms n (inv.rooms n h);
       unstruck = none_more script from run 1 inv.unstruck (none_now script from run calm);
-      bits = λ steps left enough.
-          let begun = moment_of script steps from left c.args.seats.now c.args.links.now c.args.board.now in
-          bits_on E B (WorksUntold c.args.to_rest begun) begun script steps from run c.args.most left c.none.result was
+      begun = λ starts before. begun_turned starts (B.told a z) (B.kept a z) c.none.result c.loop-run.level was now
+          c.sample_all.auto.seats did.turns (begun_bits starts c.args.seats.now was c.loop-run.auto.seats inv.more
+          before);
+      bits = λ starts steps left before enough.
+          let begun = moment_of script starts steps from left c.args.seats.now c.args.links.now c.args.board.now in
+          bits_on E B (WorksUntold c.args.to_rest begun) begun script starts steps from run c.args.most left
+          c.none.result was
           now c.loop-run.links c.sample_all.new.links a z early enough c.sample_all.auto.seats pass.few pass.at pass.row
           c.sample_all.ensures.sames c.sample_all.ensures.board did.goes
-          (begins_bit E.links c.loop-run.links (B.told a z) (B.kept a z) c.none.result c.loop-run.level was now
-          did.turns)
+          (begun_turned starts (B.told a z) (B.kept a z) c.none.result c.loop-run.level was now
+          c.sample_all.auto.seats did.turns
+          (begun_bits starts c.args.seats.now was c.loop-run.auto.seats inv.more before))
           inv.bus next (facts g c)
-          (works_untold c.args.to_rest script steps from (from + run) left (left - run) c.args.seats.now was
+          (works_untold c.args.to_rest script starts steps from (from + run) left (left - run) c.args.seats.now was
           c.args.links.now c.loop-run.links c.args.board.now a inv.bus.ready (c.goes_on.ensures.works goes) inv.board
-          c.loop-run.auto.seats inv.more) (inv.bits steps left enough);
+          c.loop-run.auto.seats inv.more) (inv.bits starts steps left before enough);
     }
 
 pub loop-run-init : goal.loop-run-init
@@ -86,8 +93,9 @@ loop-run-init g c =
           omega (arith, room, few);
       used = full_first c.args.most c.room_of-fit.result c.args.seats.now c.room_of-fit.ensures.least;
       more = λ k s here. none;
-      bits = λ steps left enough. none_yet (AnyBit E B) (WorksUntold c.args.to_rest
-          (moment_of script steps c.args.from left c.args.seats.now c.args.links.now c.args.board.now)) script steps
+      bits = λ starts steps left before enough. none_yet (AnyBit E B) (WorksUntold c.args.to_rest
+          (moment_of script starts steps c.args.from left c.args.seats.now c.args.links.now c.args.board.now)) script
+          starts steps
           c.args.from left c.args.seats.now c.args.links.now c.args.board.now;
     }
 
@@ -208,7 +216,7 @@ loop-run-preserved g c =
     }
 
 pub returns-in-Err-clause-breaks : goal.returns-in-Err-clause-breaks
-returns-in-Err-clause-breaks g c = λ steps left later enough rooms journals run_is left_is.
+returns-in-Err-clause-breaks g c = λ starts steps left later before many enough rooms journals run_is left_is.
     let E = g.E.BusEnd in let B = g.B.Board in let inv = c.loop-run.invariant in
     let script = c.args.struck.now.script in let from = c.args.from in let run = c.loop-run.run in
     let was = c.loop-run.seats in let now = c.sample_all.new.seats in
@@ -219,16 +227,27 @@ returns-in-Err-clause-breaks g c = λ steps left later enough rooms journals run
     let goes : c.goes_on.result ≡ true = search rules in
     let none = none_still B.orders_are (length c.args.seats.now) c.args.board.now a was c.loop-run.auto.seats inv.board
     c.requires.may.orders in record {
-      mid = moment_of script steps (from + run) (left - run) was c.loop-run.links a;
+      mid = moment_of script starts steps (from + run) (left - run) was c.loop-run.links a;
       run = run;
       early = early;
-      bits = inv.bits steps left enough;
-      before = works_untold c.args.to_rest script steps from (from + run) left (left - run) c.args.seats.now was
+      bits = inv.bits starts steps left before enough;
+      before = works_untold c.args.to_rest script starts steps from (from + run) left (left - run) c.args.seats.now was
           c.args.links.now c.loop-run.links c.args.board.now a inv.bus.ready (c.goes_on.ensures.works goes) inv.board
           c.loop-run.auto.seats inv.more;
-      stops = stops_on E (B.orders_are a) script steps (from + run) (left - run) (from + left) was
-          now c.loop-run.links c.sample_all.new.links c.in-Err.fault later g.met.E.BusEnd.same_refl journals
-          (omega (arith, early, enough)) c.sample_all.auto.seats (inv.rooms (room_for (from + left) steps) rooms) none
+      stops = stops_on E (B.orders_are a) script starts steps (from + run) (left - run) (from + left) was
+          now c.loop-run.links c.sample_all.new.links c.in-Err.fault later g.met.E.BusEnd.same_refl
+          g.met.E.BusEnd.same_links journals
+          (omega (arith, early, enough)) c.sample_all.auto.seats
+          (let long = each_length E.same c.args.links.now c.loop-run.links inv.sames in
+          let ends = c.requires.seated.ends.count in let same = c.loop-run.auto.seats in omega (
+            arith,
+            long,
+            ends,
+            same,
+          ))
+          (begun_bits starts c.args.seats.now was c.loop-run.auto.seats inv.more before)
+          (links_kept E.links E.same g.met.E.BusEnd.same_links starts starts c.args.links.now c.loop-run.links refl
+          inv.sames many) (inv.rooms (room_for (from + left) steps) rooms) none
           c.in-Err.ensures.broken;
       run_so_far = run_is;
       left_so_far = left_is;
@@ -247,7 +266,13 @@ returns-after-loop-run-clause-runs g c =
     let at = (goal.at.returns-after-loop-run-clause-runs g c).After-quiet_for-calm in let inv = c.loop-run.invariant in
     let past = c.loop-run-test.false in let within = inv.within in
     let script = c.args.struck.now.script in let seats = c.loop-run.seats in record {
-      runs = record { bus = inv.bus; rooms = inv.rooms; unstruck = inv.unstruck; bits = inv.bits };
+      runs = record {
+        bus = inv.bus;
+        begun = λ starts. begun_bits starts c.args.seats.now seats c.loop-run.auto.seats inv.more;
+        rooms = inv.rooms;
+        unstruck = inv.unstruck;
+        bits = inv.bits;
+      };
       ends = ends_untold c.args.to_rest script c.args.from c.args.most c.loop-run.run c.args.seats.now seats
           (free_for g at c.loop-run.run within) inv.fresh
           (ends_full c.args.to_rest script c.args.from c.args.most c.room_of-fit.result c.quiet_for-calm.result
@@ -258,7 +283,13 @@ pub returns-else-goes_on-clause-runs : goal.returns-else-goes_on-clause-runs
 returns-else-goes_on-clause-runs g c =
     let at = (goal.at.returns-else-goes_on-clause-runs g c).After-quiet_for-calm in let inv = c.loop-run.invariant in
     let script = c.args.struck.now.script in let seats = c.loop-run.seats in record {
-      runs = record { bus = inv.bus; rooms = inv.rooms; unstruck = inv.unstruck; bits = inv.bits };
+      runs = record {
+        bus = inv.bus;
+        begun = λ starts. begun_bits starts c.args.seats.now seats c.loop-run.auto.seats inv.more;
+        rooms = inv.rooms;
+        unstruck = inv.unstruck;
+        bits = inv.bits;
+      };
       ends = ends_untold c.args.to_rest script c.args.from c.args.most c.loop-run.run c.args.seats.now seats
           (free_for g at c.loop-run.run inv.within) inv.fresh
           (inr (inr (inr (c.goes_on.ensures.no c.if-goes_on.false))));

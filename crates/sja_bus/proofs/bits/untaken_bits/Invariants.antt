@@ -6,7 +6,7 @@ use Rattle.lemmas.specs.Related.{EachRelated}
 use Rattle.sja_bus.specs.Several.{AreBits}
 use Rattle.sja_wire.specs.Wire.{wired}
 use Rattle.sja_bus.specs.Inside.Refusing.{HaveRoom, AreFree}
-use Rattle.sja_bus.specs.Inside.Rows.{AreTold, EachSeat, IsBus, SeatHasBits, driven_by}
+use Rattle.sja_bus.specs.Inside.Rows.{AreBegun, AreTold, EachSeat, IsBus, SeatHasBits, driven_by}
 use Rattle.sja_bus.specs.UntilTold.{WorksUntold}
 use Rattle.sja_bus.specs.Inside.RunningOn.{moment_of, AnyBit, SomeFull}
 use Rattle.sja_bus.proofs.bits.untaken_bits.Given as goal
@@ -26,11 +26,11 @@ invariant-loop-run g l = record {
   free : AreFree (l.calm - l.run) l.seats;
   used : (l.most ≡ l.fit) ⊎ SomeFull (l.fit - l.run) l.seats;
   more : EachSeat SeatHasBits l.initial.seats l.seats;
-  bits : (steps : List ℕ) (left : ℕ) → l.most ≤ left →
+  bits : (starts : ℕ) (steps : List ℕ) (left : ℕ) → AreBegun starts l.initial.seats → l.most ≤ left →
       AreBits (AnyBit g.E.BusEnd g.B.Board) (WorksUntold l.to_rest
-      (moment_of l.fn.struck.script steps l.from left l.initial.seats l.initial.links l.initial.board))
-      (moment_of l.fn.struck.script steps l.from left l.initial.seats l.initial.links l.initial.board) l.run
-      (moment_of l.fn.struck.script steps (l.from + l.run) (left - l.run) l.seats l.links l.board);
+      (moment_of l.fn.struck.script starts steps l.from left l.initial.seats l.initial.links l.initial.board))
+      (moment_of l.fn.struck.script starts steps l.from left l.initial.seats l.initial.links l.initial.board) l.run
+      (moment_of l.fn.struck.script starts steps (l.from + l.run) (left - l.run) l.seats l.links l.board);
 }
 
 abbrev pub decreases-loop-run : goal.decreases-loop-run

@@ -2,11 +2,12 @@ use Rattle.std.proofs.Common.{◌≡◌, ◌≢◌, ◌+◌, ◌-◌, false, rep
 use Rattle.std.proofs.Common.{subst, arith, rules, ℕ, refl, Some}
 use Rattle.std.specs.Prelude.{◌⊎◌, Err, vec_capacity}
 use Rattle.lemmas.proofs.Related.{each_refl}
+use Rattle.sja_link.specs.Links.{HaveLinks}
 use Rattle.sja_link.specs.Written.{Room}
 use Rattle.sja_bus.specs.declared.seat.Seat.{Seat}
-use Rattle.sja_wire.specs.Buses.{BusValue, IsBit}
+use Rattle.sja_wire.specs.Buses.{AreOnLinks, BusValue, IsBit}
 use Rattle.sja_bus.specs.Moment.{moment, Keeps}
-use Rattle.sja_bus.specs.Inside.Rows.{AreTold, IsBus, journals_of, untold_of}
+use Rattle.sja_bus.specs.Inside.Rows.{AreBegun, AreTold, EachSeat, IsBus, SeatBegins, journals_of, untold_of}
 use Rattle.sja_bus.specs.Inside.Whole.{IsWhole, IsRowBit}
 use Rattle.sja_wire.specs.Reasons.{room_for, StopsBit}
 use Rattle.sja_wire.specs.Reasons.StopsBit.{spent}
@@ -14,7 +15,8 @@ use Rattle.sja_bus.specs.Inside.Refusing.{HaveRoom, SeatRefuses, SeatFull, SeatS
 use Rattle.sja_bus.proofs.AllNodes.Journals.{wired_row, is_bit, all_told}
 use Rattle.sja_bus.proofs.WholeBus.Logs.{calm_by, none_untold}
 use Rattle.sja_bus.proofs.AllNodes.Running.{count_is, bus_run}
-use Rattle.sja_bus.proofs.Links.WrittenBack.{are_back, begins_back, keeps_back, keeps_still}
+use Rattle.sja_bus.proofs.Links.WrittenBack.{are_back, keeps_back, keeps_still}
+use Rattle.sja_bus.proofs.AllNodes.Begins.{begun_then, ends_count, on_links}
 use Rattle.sja_bus.proofs.ItemsTaken.TakenBefore.{takes_back}
 use Rattle.sja_bus.proofs.ItemsTaken.BreakingSeats.{stops_bit}
 use Rattle.lemmas.proofs.Results.{err_is}
@@ -27,6 +29,7 @@ returns-in_err-goes_on-clause-keeps g c = record {
   sames = each_refl g.E.BusEnd.same g.met.E.BusEnd.same_refl c.args.links.now;
   others = (refl, λ k far. g.met.B.Board.kept_refl c.args.board.now k);
   script = refl;
+  starts = refl;
   steps = refl;
   nodes = refl;
 }
@@ -44,16 +47,18 @@ written g c =
 
 -- what a bit keeps, whether it comes to its end or not
 keeps : (g : _) (c : After-bit_of_all g) (new : BusValue) → new.script ≡ c.self.inside.struck.script →
-    new.steps ≡ c.self.inside.steps.items → new.journals ≡ journals_of (take c.self.inside.seats.len
+    new.starts ≡ c.self.inside.starts → new.steps ≡ c.self.inside.steps.items → new.journals ≡ journals_of (take
+    c.self.inside.seats.len
     (c.bit_of_all.new.seats ++ drop (length c.bit_of_all.new.seats) c.self.inside.seats.items)) →
     Keeps g.E.BusEnd g.B.Board (moment c.args.self.now c.args.links.now c.args.board.now)
     (moment new c.bit_of_all.new.links c.bit_of_all.new.board)
-keeps g c new script steps journals =
+keeps g c new script starts steps journals =
     let seats = c.self.inside.seats in let seen = c.self.view_is in
     keeps_still g.E.BusEnd g.B.Board seats.items c.as_mut_slice.result.now c.bit_of_all.new.seats seats.len
     c.args.self.now new c.args.links.now c.bit_of_all.new.links c.args.board.now c.bit_of_all.new.board (omega arith)
     c.as_mut_slice.ensures.value c.bit_of_all.auto.seats (ap (λ (w : BusValue). w.journals) seen)
-    (script ∙ ap (λ (w : BusValue). w.script) seen) (steps ∙ ap (λ (w : BusValue). w.steps) seen) journals
+    (script ∙ ap (λ (w : BusValue). w.script) seen) (starts ∙ ap (λ (w : BusValue). w.starts) seen) (steps ∙ ap (λ (w
+    : BusValue). w.steps) seen) journals
     c.bit_of_all.ensures.sames c.bit_of_all.ensures.board
 
 -- the bus had no fault, and a bit left
@@ -79,10 +84,23 @@ told g c len = all_told (g.B.Board.told c.args.board.now c.bit_of_all.new.board)
     (g.B.Board.kept c.args.board.now c.bit_of_all.new.board) c.at-struck.result c.self.inside.seats.items
     c.bit_of_all.new.seats len (row g c)
 
+-- no more activations have begun than there are links for
+begun_now : (g : _) (c : In-Ok g) → length c.bit_of_all.new.seats ≡ length c.self.inside.seats.items →
+    AreBegun c.self.inside.starts c.bit_of_all.new.seats
+begun_now g c len =
+    let b = c.self.inside in let E = g.E.BusEnd in let links = c.args.links.now in
+    let S : List Seat → Type 0 = λ l. EachSeat (SeatBegins E.links links) l c.bit_of_all.new.seats in
+    let H : BusValue → Type 0 = λ w. HaveLinks E.links w.starts links in
+    begun_then E.links b.starts links b.seats.items c.bit_of_all.new.seats
+    (ends_count E.node c.args.self.now.journals b.seats.items links (ap (λ (w : BusValue). w.journals) c.self.view_is)
+    c.requires.ends) len (subst H (sym c.self.view_is) c.requires.links)
+    (subst S c.as_mut_slice.ensures.value c.in-Ok.ensures.within) (c.self.invariant.0.begun (right g c).0)
+
 -- the bus is whole after the bit
 whole : (g : _) (c : In-Ok g) → length c.bit_of_all.new.seats ≡ length c.self.inside.seats.items →
     let b = c.self.inside in
-    IsWhole b.struck b.steps.items (b.run + 1) (b.left - 1) b.fault c.bit_of_all.new.seats (vec_capacity b.logs)
+    IsWhole b.struck b.starts b.steps.items (b.run + 1) (b.left - 1) b.fault c.bit_of_all.new.seats (vec_capacity
+    b.logs)
 whole g c len =
     let b = c.self.inside in let inv = c.self.invariant.0 in
     let some = (right g c).1 in let bits = inv.bits in let few = inv.few in let logs = inv.logs in
@@ -99,6 +117,7 @@ whole g c len =
             (g.B.Board.kept c.args.board.now c.bit_of_all.new.board) b.struck.script b.run c.at-struck.result
             b.seats.items c.bit_of_all.new.seats len few c.at-struck.ensures (row g c) (inv.bus f).wired;
       };
+      begun = λ f. begun_now g c len;
       logs = omega (arith, len, logs);
       rooms = subst H c.as_mut_slice.ensures.value c.bit_of_all.ensures.rooms (room_for b.struck.bits b.steps.items)
           inv.rooms;
@@ -107,7 +126,7 @@ whole g c len =
 pub invariant_of-self : goal.invariant_of-self
 invariant_of-self g c =
     let at = goal.at.invariant_of-self g c in let b = c.self.inside in
-    let P : List Seat → Type 0 = λ xs. IsWhole b.struck b.steps.items (b.run + 1) (b.left - 1) b.fault xs
+    let P : List Seat → Type 0 = λ xs. IsWhole b.struck b.starts b.steps.items (b.run + 1) (b.left - 1) b.fault xs
     (vec_capacity b.logs) in (
       subst P (sym (written g at.After-bit_of_all)) (whole g at.In-Ok (same_count g at.After-bit_of_all)),
       c.self.invariant.1,
@@ -118,9 +137,9 @@ invariant_of-self-in-Err g c =
     let at = (goal.at.invariant_of-self-in-Err g c).After-bit_of_all in let b = c.self.inside in
     let now = c.bit_of_all.new.seats in
     let H : List Seat → Type 0 = λ l. (n : ℕ → Room) → HaveRoom n l → HaveRoom n now in
-    let P : List Seat → Type 0 = λ xs. IsWhole b.struck b.steps.items b.run b.left (Some c.in-Err.fault) xs
+    let P : List Seat → Type 0 = λ xs. IsWhole b.struck b.starts b.steps.items b.run b.left (Some c.in-Err.fault) xs
     (vec_capacity b.logs) in (
-      subst P (sym (written g at)) (whole_broken b.struck b.steps.items b.run b.left b.run b.left b.fault
+      subst P (sym (written g at)) (whole_broken b.struck b.starts b.steps.items b.run b.left b.run b.left b.fault
           c.in-Err.fault b.seats.items now (vec_capacity b.logs) (same_count g at) (omega arith) refl
           (subst H c.as_mut_slice.ensures.value c.bit_of_all.ensures.rooms) c.self.invariant.0),
       c.self.invariant.1,
@@ -128,11 +147,11 @@ invariant_of-self-in-Err g c =
 
 pub returns-in-Ok-clause-keeps : goal.returns-in-Ok-clause-keeps
 returns-in-Ok-clause-keeps g c =
-    keeps g (goal.at.returns-in-Ok-clause-keeps g c).After-bit_of_all _ refl refl refl
+    keeps g (goal.at.returns-in-Ok-clause-keeps g c).After-bit_of_all _ refl refl refl refl
 
 pub returns-in-Err-clause-keeps : goal.returns-in-Err-clause-keeps
 returns-in-Err-clause-keeps g c =
-    keeps g (goal.at.returns-in-Err-clause-keeps g c).After-bit_of_all _ refl refl refl
+    keeps g (goal.at.returns-in-Err-clause-keeps g c).After-bit_of_all _ refl refl refl refl
 
 pub returns-in-Ok-clause-bit : goal.returns-in-Ok-clause-bit
 returns-in-Ok-clause-bit g c =
@@ -145,9 +164,8 @@ returns-in-Ok-clause-bit g c =
       kept = keeps_back g.E.BusEnd.same g.E.BusEnd.stands was c.as_mut_slice.result.now now b.seats.len
           c.args.self.now.journals c.args.links.now c.bit_of_all.new.links (omega arith) c.as_mut_slice.ensures.value
           c.bit_of_all.auto.seats (ap (λ (w : BusValue). w.journals) c.self.view_is) c.in-Ok.ensures.goes;
-      within = begins_back g.E.BusEnd.links c.args.links.now was c.as_mut_slice.result.now now b.seats.len
-          c.args.self.now.journals (omega arith) c.as_mut_slice.ensures.value c.bit_of_all.auto.seats
-          (ap (λ (w : BusValue). w.journals) c.self.view_is) c.in-Ok.ensures.within;
+      within = let L : List Seat → Type 0 = λ l. AreOnLinks b.starts (journals_of l) in
+          subst L (sym back) (on_links b.starts now (begun_now g at.In-Ok len));
       bit =
           let orders = g.B.Board.orders_are c.args.board.now in
           let told = g.B.Board.told c.args.board.now c.bit_of_all.new.board in
@@ -196,6 +214,7 @@ returns-in-Err-clause-reason g c = λ none.
     let old = c.args.self.now in
     let new : List Seat → BusValue = λ xs. record {
       script = b.struck.script;
+      starts = b.starts;
       steps = b.steps.items;
       run = b.run;
       left = b.left;
@@ -208,8 +227,11 @@ returns-in-Err-clause-reason g c = λ none.
     let Q : List Seat → Type 0 = λ xs. StopsBit E O old (new xs) before after f in
     let S : List Seat → Type 0 = λ l. (SeatRefuses E l now before after f
     ⊎ SeatFull E O l now before after f) ⊎ SeatStops E O l now before f in
-    let reason = stops_bit E O b.struck.script b.steps.items b.run b.left b.struck.bits b.fault was
-    now before after f (new now) refl inv.bits len rooms
+    let L : BusValue → Type 0 = λ w. HaveLinks E.links w.starts before in
+    let reason = stops_bit E O b.struck.script b.starts b.steps.items b.run b.left b.struck.bits b.fault was
+    now before after f (new now) g.met.E.BusEnd.same_links refl inv.bits len
+    (ends_count E.node old.journals was before (ap (λ (w : BusValue). w.journals) c.self.view_is) c.requires.ends)
+    (inv.begun right) (subst L (sym c.self.view_is) c.requires.links) rooms
     (subst S c.as_mut_slice.ensures.value c.in-Err.ensures.stops) in
     subst Q (sym (written g at)) (subst P c.self.view_is reason)
 

@@ -5,7 +5,7 @@ use Rattle.sja_bus.specs.Moment.{Moment, moment, Keeps}
 use Rattle.sja_bus.specs.Several.{BitInOrder, WorksIf, StopsBits}
 use Rattle.sja_bus.specs.Inside.RunningOn.{AnyBit, IsSoFar}
 use Rattle.lemmas.proofs.Results.{err_is}
-use Rattle.sja_bus.proofs.AllNodes.Many.{ends_kept}
+use Rattle.sja_bus.proofs.AllNodes.Many.{ends_kept, links_kept}
 use Rattle.sja_bus.proofs.AllNodes.SoFar.{keeps_refl, none_yet, and_one, and_more, keeps_trans, still_for, breaks_later}
 use Rattle.sja_bus.proofs.bus.Bus.bits.Goals as goal
 use Rattle.sja_bus.proofs.bus.Bus.bits.Goals.{After-bit, After-run_untaken_bits}
@@ -79,6 +79,12 @@ bit-requires-clause-ends g c =
     ends_kept g.E.BusEnd.node g.E.BusEnd.same g.met.E.BusEnd.same_node c.args.links.now c.loop-run.links
     (length c.args.self.now.journals) (length c.loop-run.self.journals) keeps.nodes keeps.sames c.requires.ends
 
+pub bit-requires-clause-links : goal.bit-requires-clause-links
+bit-requires-clause-links g c =
+    let keeps = c.loop-run.invariant.far.keeps in
+    links_kept g.E.BusEnd.links g.E.BusEnd.same g.met.E.BusEnd.same_links c.args.self.now.starts c.loop-run.self.starts
+    c.args.links.now c.loop-run.links keeps.starts keeps.sames c.requires.links
+
 pub returns-in_err-bit-clause-keeps : goal.returns-in_err-bit-clause-keeps
 returns-in_err-bit-clause-keeps g c = kept g (goal.at.returns-in_err-bit-clause-keeps g c).After-bit
 
@@ -106,11 +112,11 @@ pub run_untaken_bits-requires : goal.run_untaken_bits-requires
 run_untaken_bits-requires g c =
     let fit = c.requires in let one = c.in_ok-bit.ensures.bit in let so_far = c.loop-run.invariant.far.left in
     let next = one.left in let most = c.in_ok-most.ensures.left in record {
-      fit = still_for g.E.BusEnd g.B.Board g.met.E.BusEnd.same_node
+      fit = still_for g.E.BusEnd g.B.Board g.met.E.BusEnd.same_node g.met.E.BusEnd.same_links
           (moment c.args.self.now c.args.links.now c.args.board.now)
           (moment c.bit.new.self c.bit.new.links c.bit.new.board)
           (kept g (goal.at.run_untaken_bits-requires g c).After-bit)
-          (record { ends = fit.ends; ports = fit.ports });
+          (record { ends = fit.ends; many = fit.links; ports = fit.ports });
       right = one.right;
       most = omega (arith, so_far, next, most);
     }

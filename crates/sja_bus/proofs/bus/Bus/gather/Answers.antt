@@ -1,23 +1,42 @@
 use Rattle.std.proofs.Common.{◌≡◌, List, ◌++◌, length, take, drop, refl, sym, ap, ◌∙◌, subst, arith, ◌+◌, ℕ, None}
-use Rattle.std.proofs.Common.{Some}
+use Rattle.std.proofs.Common.{Some, rules}
 use Rattle.std.proofs.lemmas.Grind.{common_steps}
 use Rattle.std.specs.Prelude.{vec_capacity}
 use Rattle.lemmas.proofs.Related.{each_refl}
 use Rattle.sja_bus.specs.declared.seat.Seat.{Seat}
 use Rattle.sja_wire.specs.Lawful.{IsBusRun}
+use Rattle.sja_link.specs.Links.{HaveLinks}
 use Rattle.sja_link.specs.Written.{Room}
 use Rattle.sja_link.specs.BitEntries.{MayHaveItems}
-use Rattle.sja_wire.specs.Buses.{BusValue, EachJournal, EachUntold, AllDry}
-use Rattle.sja_bus.specs.Inside.Rows.{journals_of, untold_of, EachSeat, SeatTakes, SeatUntold}
+use Rattle.sja_wire.specs.Buses.{AreOnLinks, BusValue, EachJournal, EachUntold, AllDry}
+use Rattle.sja_bus.specs.Inside.Rows.{AreBegun, EachSeat, SeatBegins, SeatTakes, SeatUntold, journals_of, untold_of}
 use Rattle.sja_bus.specs.Inside.Whole.{IsWhole}
 use Rattle.sja_wire.specs.Reasons.{room_for, IsTakenAndRefused}
 use Rattle.sja_bus.specs.Inside.Refusing.{HaveRoom, SeatRefuses}
+use Rattle.sja_bus.proofs.AllNodes.Begins.{begun_then, ends_count, on_links}
 use Rattle.sja_bus.proofs.AllNodes.Running.{wired_taken, bus_run}
 use Rattle.sja_bus.proofs.AllNodes.Journals.{all_items, all_dry, all_untold, calm_taken}
 use Rattle.sja_bus.proofs.ItemsTaken.Refusing.{not_taken}
-use Rattle.sja_bus.proofs.Links.WrittenBack.{keeps_back, begins_back}
+use Rattle.sja_bus.proofs.Links.WrittenBack.{are_back, keeps_back}
 use Rattle.sja_bus.proofs.WholeBus.Broken.{whole_broken}
+use Rattle.sja_bus.proofs.bus.Bus.gather.Goals.{After-gather_all, In-Ok}
 use Rattle.sja_bus.proofs.bus.Bus.gather.Goals as goal
+
+-- as many seats as before
+same_count : (g : _) (c : After-gather_all g) → length c.gather_all.new.seats ≡ length c.self.inside.seats.items
+same_count g c = c.gather_all.auto.seats ∙ ap (λ (l : List Seat). length l) c.as_mut_slice.ensures.value
+
+-- no more activations have begun than there are links for
+begun_now : (g : _) (c : In-Ok g) → length c.gather_all.new.seats ≡ length c.self.inside.seats.items →
+    c.self.inside.fault ≡ None → AreBegun c.self.inside.starts c.gather_all.new.seats
+begun_now g c len right =
+    let b = c.self.inside in let E = g.E.BusEnd in let links = c.args.links.now in
+    let S : List Seat → Type 0 = λ l. EachSeat (SeatBegins E.links links) l c.gather_all.new.seats in
+    let H : BusValue → Type 0 = λ w. HaveLinks E.links w.starts links in
+    begun_then E.links b.starts links b.seats.items c.gather_all.new.seats
+    (ends_count E.node c.args.self.now.journals b.seats.items links (ap (λ (w : BusValue). w.journals) c.self.view_is)
+    c.requires.ends) len (subst H (sym c.self.view_is) c.requires.links)
+    (subst S c.as_mut_slice.ensures.value c.in-Ok.ensures.within) (c.self.invariant.0.begun right)
 
 pub returns-in-Some-clause-lawful : goal.returns-in-Some-clause-lawful
 returns-in-Some-clause-lawful g c =
@@ -53,7 +72,7 @@ invariant_of-self g c =
     let untold : EachSeat SeatUntold was now = subst N v c.in-Ok.ensures.untold in
     let few = inv.few in let logs = inv.logs in
     let H : List Seat → Type 0 = λ l. (n : ℕ → Room) → HaveRoom n l → HaveRoom n now in
-    let l : IsWhole b.struck b.steps.items b.run b.left b.fault now (vec_capacity b.logs) = record {
+    let l : IsWhole b.struck b.starts b.steps.items b.run b.left b.fault now (vec_capacity b.logs) = record {
       few = omega (arith, len, few);
       bits = inv.bits;
       most = inv.most;
@@ -63,10 +82,12 @@ invariant_of-self g c =
         calm = calm_taken was now len untold (inv.bus f).calm;
         wired = wired_taken b.struck.script b.run was now len takes (inv.bus f).wired;
       };
+      begun = begun_now g (goal.at.invariant_of-self g c).In-Ok len;
       logs = omega (arith, len, logs);
       rooms = subst H v c.gather_all.ensures.rooms (room_for b.struck.bits b.steps.items) inv.rooms;
     } in
-    let P : List Seat → Type 0 = λ xs. IsWhole b.struck b.steps.items b.run b.left b.fault xs (vec_capacity b.logs) in
+    let P : List Seat → Type 0 = λ xs. IsWhole b.struck b.starts b.steps.items b.run b.left b.fault xs (vec_capacity
+    b.logs) in
     (subst P (sym e) l, c.self.invariant.1)
 
 pub invariant_of-self-in-Err : goal.invariant_of-self-in-Err
@@ -76,9 +97,10 @@ invariant_of-self-in-Err g c =
     let len : length now ≡ length was = c.gather_all.auto.seats ∙ ap (λ (l : List Seat). length l) v in
     let e : take b.seats.len (now ++ drop (length now) was) ≡ now = grind (arith, common_steps) in
     let H : List Seat → Type 0 = λ l. (n : ℕ → Room) → HaveRoom n l → HaveRoom n now in
-    let P : List Seat → Type 0 = λ xs. IsWhole b.struck b.steps.items b.run b.left (Some c.in-Err.fault) xs
+    let P : List Seat → Type 0 = λ xs. IsWhole b.struck b.starts b.steps.items b.run b.left (Some c.in-Err.fault) xs
     (vec_capacity b.logs) in (
-      subst P (sym e) (whole_broken b.struck b.steps.items b.run b.left b.run b.left b.fault c.in-Err.fault was now
+      subst P (sym e) (whole_broken b.struck b.starts b.steps.items b.run b.left b.run b.left b.fault c.in-Err.fault
+          was now
           (vec_capacity b.logs) len (omega arith) refl (subst H v c.gather_all.ensures.rooms) c.self.invariant.0),
       c.self.invariant.1,
     )
@@ -94,10 +116,11 @@ returns-in-Ok-clause-kept g c =
 
 pub returns-in-Ok-clause-within : goal.returns-in-Ok-clause-within
 returns-in-Ok-clause-within g c =
-    let seats = c.self.inside.seats in let all : seats.len ≡ length seats.items = omega arith in
-    begins_back g.E.BusEnd.links c.args.links.now seats.items c.as_mut_slice.result.now c.gather_all.new.seats
-    seats.len c.args.self.now.journals all c.as_mut_slice.ensures.value c.gather_all.auto.seats
-    (ap (λ (w : BusValue). w.journals) c.self.view_is) c.in-Ok.ensures.within
+    let at = goal.at.returns-in-Ok-clause-within g c in let b = c.self.inside in let now = c.gather_all.new.seats in
+    let len = same_count g at.After-gather_all in
+    let L : List Seat → Type 0 = λ l. AreOnLinks b.starts (journals_of l) in
+    subst L (sym (are_back b.seats.items now b.seats.len (omega arith) len))
+    (on_links b.starts now (begun_now g at.In-Ok len (search rules)))
 
 pub returns-in-Ok-clause-items : goal.returns-in-Ok-clause-items
 returns-in-Ok-clause-items g c =
@@ -133,8 +156,11 @@ returns-in-Err-clause-reason g c = λ none.
     let right : b.fault ≡ None = ap (λ (w : BusValue). w.fault) c.self.view_is ∙ none in
     let N : ℕ → Type 0 = λ n. IsTakenAndRefused E n b.steps.items (journals_of was) (journals_of now) before
     after f in
-    let reason = subst N (sym inv.bits) (not_taken E b.struck.bits b.steps.items was now before after f len
-    inv.rooms
+    let L : BusValue → Type 0 = λ w. HaveLinks E.links w.starts before in
+    let ends = ends_count E.node c.args.self.now.journals was before (ap (λ (w : BusValue). w.journals) c.self.view_is)
+    c.requires.ends in
+    let reason = subst N (sym inv.bits) (not_taken E b.starts b.struck.bits b.steps.items was now before after f len
+    ends (inv.begun right) (subst L (sym c.self.view_is) c.requires.links) inv.rooms
     (subst S v c.in-Err.ensures.refused)) in
     let P : BusValue → Type 0 = λ w. IsTakenAndRefused E (w.run + w.left) w.steps w.journals
     (journals_of now) before after f in

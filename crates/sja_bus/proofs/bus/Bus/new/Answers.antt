@@ -2,6 +2,7 @@ use Rattle.std.specs.Prelude.{slice_index_or}
 use Rattle.std.proofs.lemmas.List.{get_or_default as or_same}
 use Rattle.std.proofs.Common.{◌≡◌, ℕ, ◌+◌, ◌<◌, ◌≤◌, Bool, false, None, List, [], length, replicate, rules}
 use Rattle.std.proofs.Common.{arith, sym, ap, ◌∙◌, subst, vec_capacity}
+use Rattle.sja_link.specs.Opening.{begun_in}
 use Rattle.sja_link.specs.Written.{room_in}
 use Rattle.sja_link.specs.declared.entry.Entry.{Entry}
 use Rattle.sja_bus.specs.declared.seat.Seat.{Seat}
@@ -46,13 +47,15 @@ invariant_of-result c =
     let new : AreNew (length seats) seats = subst (λ (m : ℕ). AreNew m seats) e c.loop-node.invariant.made in
     let room : length c.args.steps.items ≤ vec_capacity logs = search rules in
     let most = c.requires.bits.1 in let few = c.requires.nodes.1 in
-    let P : Scripted → Type 0 = λ x. IsWhole x c.args.steps.items 0 c.args.bits None seats (vec_capacity logs) in (
+    let P : Scripted → Type 0 = λ x. IsWhole x c.args.starts c.args.steps.items 0 c.args.bits None seats (vec_capacity
+    logs) in (
       subst P (sym c.in_ok-struck.ensures) (record {
         few = omega (arith, n, few);
         bits = omega arith;
         most = most;
         asked = omega arith;
         bus = λ f. new_bus c.args.script seats new;
+        begun = λ f k s few. let none = ap begun_in (new k s few).empty in omega (arith, none);
         logs = omega (arith, n, room);
         rooms = c.loop-node.invariant.rooms;
       }),
@@ -73,6 +76,7 @@ returns c =
     ∙ ap (λ m. replicate m false) n in
     let f : Scripted → BusValue = λ x. record {
       script = x.script;
+      starts = c.args.starts;
       steps = c.args.steps.items;
       run = 0;
       left = c.args.bits;
@@ -83,6 +87,7 @@ returns c =
     } in
     let h : List (List Entry) → BusValue = λ l. record {
       script = c.args.script;
+      starts = c.args.starts;
       steps = c.args.steps.items;
       run = 0;
       left = c.args.bits;
@@ -93,6 +98,7 @@ returns c =
     } in
     let t : List Bool → BusValue = λ l. record {
       script = c.args.script;
+      starts = c.args.starts;
       steps = c.args.steps.items;
       run = 0;
       left = c.args.bits;

@@ -3,11 +3,11 @@ use Rattle.std.specs.Prelude.{Result, Ok, IfOk}
 use Rattle.std.proofs.lemmas.Result.{IfErr-weaker}
 use Rattle.sja_wire.specs.declared.bus_fault.BusFault.{BusFault}
 use Rattle.sja_link.specs.BitEntries.{MayHaveItems}
-use Rattle.sja_wire.specs.Buses.{BusValue, AllTold, EachJournal, EachUntold}
+use Rattle.sja_wire.specs.Buses.{AreOnLinks, BusValue, AllTold, EachJournal, EachUntold}
 use Rattle.sja_bus.specs.Stretches.{IsStretch, IsOutOfEntries}
 use Rattle.sja_bus.specs.Inside.AtOnce.{RunsAtOnce}
 use Rattle.sja_bus.proofs.AllNodes.SoFar.{each_count}
-use Rattle.sja_bus.proofs.Resting.QuietBits.{keeps_rest, begins_rest, dry_rest, stretch_rest}
+use Rattle.sja_bus.proofs.Resting.QuietBits.{keeps_rest, dry_rest, stretch_rest}
 use Rattle.sja_bus.proofs.bus.Bus.quiet_bits.Goals.{After-run_idle_bits}
 use Rattle.sja_bus.proofs.bus.Bus.quiet_bits.Goals as goal
 
@@ -68,14 +68,6 @@ returns-clause-kept g c =
     c.gather.new.links c.gather.ensures.nodes
     (λ zero. ap (λ (x : BusValue). x.journals) (none g at zero)) (stretch g at) took.kept
 
-pub returns-clause-within : goal.returns-clause-within
-returns-clause-within g c =
-    let B = g.B.Board in let board = c.args.board.now in let old = c.args.self.now in let mid = c.gather.new.self in
-    let took = c.in_ok-gather.ensures in let at = (goal.at.returns-clause-within g c).After-run_idle_bits in
-    begins_rest (B.orders_are board) (B.told board board) (B.kept board board) g.E.BusEnd.links mid.script mid.run
-    mid.untold c.run_idle_bits.result old.journals mid.journals c.run_idle_bits.new.self.journals c.args.links.now
-    c.gather.ensures.nodes (λ zero. ap (λ (x : BusValue). x.journals) (none g at zero)) (stretch g at) took.within
-
 pub returns-clause-dry : goal.returns-clause-dry
 returns-clause-dry g c =
     let B = g.B.Board in let board = c.args.board.now in let mid = c.gather.new.self in
@@ -105,7 +97,7 @@ returns-clause-reason g c =
       count = did.nodes;
       items = took.items;
       kept = took.kept;
-      within = took.within;
+      within = let L : ℕ → Type 0 = λ n. AreOnLinks n mid.journals in subst L did.starts took.within;
       out = let P : ℕ → ℕ → List ℕ → Type 0 = λ run left steps. IsOutOfEntries (run + left) steps left mid.journals
           c.run_idle_bits.new.self.journals f in
           subst (λ (l : List ℕ). P old.run old.left l) did.steps

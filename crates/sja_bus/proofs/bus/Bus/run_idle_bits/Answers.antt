@@ -5,11 +5,11 @@ use Rattle.std.specs.Prelude.{vec_capacity}
 use Rattle.sja_regs.specs.declared.orders.Orders.{Orders}
 use Rattle.sja_bus.specs.declared.seat.Seat.{Seat}
 use Rattle.sja_link.specs.Written.{Room}
-use Rattle.sja_wire.specs.Buses.{BusValue}
+use Rattle.sja_wire.specs.Buses.{AreOnLinks, BusValue}
 use Rattle.sja_script.specs.declared.strike.Strike.{Strike}
 use Rattle.sja_bus.specs.Inside.StrikesByBit.{Scripted}
 use Rattle.sja_bus.specs.Stretches.{IsStretch, IsOutOfEntries}
-use Rattle.sja_bus.specs.Inside.Rows.{journals_of, untold_of, IsBus}
+use Rattle.sja_bus.specs.Inside.Rows.{AreBegun, IsBus, journals_of, untold_of}
 use Rattle.sja_bus.specs.Inside.Whole.{IsWhole}
 use Rattle.sja_bus.specs.Inside.AtOnce.{RunsAtOnce}
 use Rattle.sja_bus.specs.Inside.Idling.{AreResting, IsOneAwake, IsFullBy, all_after}
@@ -19,7 +19,8 @@ use Rattle.sja_bus.proofs.WholeBus.Logs.{none_untold}
 use Rattle.sja_bus.proofs.AllNodes.RanOn.{bus_with}
 use Rattle.sja_bus.proofs.AllNodes.Running.{count_is}
 use Rattle.sja_bus.proofs.Resting.Rests.{ends_awake}
-use Rattle.sja_bus.proofs.Resting.Stretches.{after_untold, room_after}
+use Rattle.sja_bus.proofs.Resting.Stretches.{after_untold, begun_after, room_after}
+use Rattle.sja_bus.proofs.AllNodes.Begins.{on_links}
 use Rattle.sja_bus.proofs.Resting.WholeStretches.{bus_after, stretch_after, ends_quiet}
 use Rattle.sja_bus.proofs.Resting.WholeStretches.{out_of_entries, struck_by}
 use Rattle.sja_bus.proofs.WholeBus.Broken.{whole_broken}
@@ -65,11 +66,26 @@ grown g c =
     let A : List Seat → Type 0 = λ l. c.all_enter_idle_bits.new.seats ≡ all_after c.quiet_for-bits.result l in
     subst A c.as_mut_slice.ensures.value c.in-Ok.ensures.rested
 
+pub returns-in-Ok-clause-within : goal.returns-in-Ok-clause-within
+returns-in-Ok-clause-within g c =
+    let at = goal.at.returns-in-Ok-clause-within g c in let b = c.self.inside in
+    let right = is_right g at.After-all_enter_idle_bits in let n = c.quiet_for-bits.result in
+    let L : List Seat → Type 0 = λ l. AreOnLinks b.starts (journals_of l) in
+    subst L (sym (are_back g at.After-all_enter_idle_bits)) (subst L (sym (grown g at.In-Ok))
+    (on_links b.starts (all_after n b.seats.items)
+    (begun_after n b.starts b.seats.items (c.self.invariant.0.begun right))))
+
+pub returns-then-bits-eq0-clause-within : goal.returns-then-bits-eq0-clause-within
+returns-then-bits-eq0-clause-within g c =
+    let b = c.self.inside in let right = ap (λ (w : BusValue). w.fault) c.self.view_is ∙ c.requires.right in
+    on_links b.starts b.seats.items (c.self.invariant.0.begun right)
+
 -- where none was run
 pub invariant_of-self : goal.invariant_of-self
 invariant_of-self g c =
     let b = c.self.inside in
-    let S : Scripted → Type 0 = λ s. IsWhole s b.steps.items b.run b.left b.fault b.seats.items (vec_capacity b.logs) in
+    let S : Scripted → Type 0 = λ s. IsWhole s b.starts b.steps.items b.run b.left b.fault b.seats.items (vec_capacity
+    b.logs) in
     (subst S (sym c.quiet_for-bits.ensures.same) c.self.invariant.0, c.self.invariant.1)
 
 pub invariant_of-self-in-Ok : goal.invariant_of-self-in-Ok
@@ -84,7 +100,8 @@ invariant_of-self-in-Ok g c =
     let few = inv.few in let logs = inv.logs in let bits = inv.bits in
     let most = c.quiet_for-bits.ensures.most in
     let left = c.fewer-most.ensures.left in
-    let l : IsWhole b.struck b.steps.items (b.run + n) (b.left - n) b.fault now (vec_capacity b.logs) = record {
+    let l : IsWhole b.struck b.starts b.steps.items (b.run + n) (b.left - n) b.fault now (vec_capacity b.logs) =
+    record {
       few = omega (arith, len, few);
       bits = omega (arith, bits, most, left);
       most = inv.most;
@@ -94,12 +111,14 @@ invariant_of-self-in-Ok g c =
           (λ node. g.met.B.Board.kept_refl board node) was (inv.bus f).ready (rested g at) (asked g at)
           b.struck.script b.run n few
           c.quiet_for-bits.ensures.quiet (inv.bus f));
+      begun = λ f. subst (AreBegun b.starts) (sym is) (begun_after n b.starts was (inv.begun f));
       logs = omega (arith, len, logs);
       rooms = subst H (sym is) (room_after n (room_for b.struck.bits b.steps.items) was inv.rooms);
     } in
-    let P : List Seat → Type 0 = λ xs. IsWhole c.quiet_for-bits.new.self b.steps.items (b.run + n) (b.left - n) b.fault
+    let P : List Seat → Type 0 = λ xs. IsWhole c.quiet_for-bits.new.self b.starts b.steps.items (b.run + n) (b.left -
+    n) b.fault
     xs (vec_capacity b.logs) in
-    let S : Scripted → Type 0 = λ s. IsWhole s b.steps.items (b.run + n) (b.left - n) b.fault now
+    let S : Scripted → Type 0 = λ s. IsWhole s b.starts b.steps.items (b.run + n) (b.left - n) b.fault now
     (vec_capacity b.logs) in
     (subst P (sym (are_back g at)) (subst S (sym c.quiet_for-bits.ensures.same) l), c.self.invariant.1)
 
@@ -130,7 +149,7 @@ returns-in-Ok-clause-runs g c =
     let none : untold_of was ≡ replicate (length was) false =
     none_untold was (λ k s few. (rest k s few).none) in
     let V : List Strike → ℕ → ℕ → List Seat → BusValue = λ s run left l.
-    bus_with s b.steps.items run left b.fault l in
+    bus_with s b.starts b.steps.items run left b.fault l in
     let r : RunsAtOnce g.B.Board board c.args.count (V b.struck.script b.run b.left was)
     (V script (b.run + n) (b.left - n) now) n = record {
       most = omega (arith, quiet, few);
@@ -153,11 +172,12 @@ invariant_of-self-in-Err g c =
     let at = (goal.at.invariant_of-self-in-Err g c).After-all_enter_idle_bits in let b = c.self.inside in
     let now = c.all_enter_idle_bits.new.seats in
     let H : List Seat → Type 0 = λ l. (n : ℕ → Room) → HaveRoom n l → HaveRoom n now in
-    let P : List Seat → Type 0 = λ xs. IsWhole c.quiet_for-bits.new.self b.steps.items b.run b.left
+    let P : List Seat → Type 0 = λ xs. IsWhole c.quiet_for-bits.new.self b.starts b.steps.items b.run b.left
     (Some c.in-Err.fault) xs (vec_capacity b.logs) in
-    let S : Scripted → Type 0 = λ s. IsWhole s b.steps.items b.run b.left (Some c.in-Err.fault) now
+    let S : Scripted → Type 0 = λ s. IsWhole s b.starts b.steps.items b.run b.left (Some c.in-Err.fault) now
     (vec_capacity b.logs) in (
-      subst P (sym (are_back g at)) (subst S (sym c.quiet_for-bits.ensures.same) (whole_broken b.struck b.steps.items
+      subst P (sym (are_back g at)) (subst S (sym c.quiet_for-bits.ensures.same) (whole_broken b.struck b.starts
+          b.steps.items
           b.run b.left b.run b.left b.fault c.in-Err.fault b.seats.items now (vec_capacity b.logs) (same_count g at)
           (omega arith) refl
           (subst H c.as_mut_slice.ensures.value c.all_enter_idle_bits.ensures.rooms) c.self.invariant.0)),
@@ -187,7 +207,7 @@ returns-then-bits-eq0-clause-script g c =
 pub returns-then-bits-eq0-clause-runs : goal.returns-then-bits-eq0-clause-runs
 returns-then-bits-eq0-clause-runs g c =
     let b = c.self.inside in
-    let same = ap (λ (l : List Strike). bus_with l b.steps.items b.run b.left b.fault b.seats.items)
+    let same = ap (λ (l : List Strike). bus_with l b.starts b.steps.items b.run b.left b.fault b.seats.items)
     (script_is g (goal.at.returns-then-bits-eq0-clause-runs g c).After-quiet_for-bits) ∙ c.self.view_is in
     let R : BusValue → Type 0 = λ w. RunsAtOnce g.B.Board c.args.board.now c.args.count c.args.self.now w 0 in
     subst R (sym same) (record {
@@ -206,7 +226,7 @@ returns-then-bits-eq0-clause-longest g c =
     let right : b.fault ≡ None = ap (λ (w : BusValue). w.fault) c.self.view_is ∙ c.requires.right in
     let script = c.quiet_for-bits.new.self.script in
     let same = script_is g (goal.at.returns-then-bits-eq0-clause-longest g c).After-quiet_for-bits in
-    let v : BusValue = bus_with script b.steps.items b.run b.left b.fault was in
+    let v : BusValue = bus_with script b.starts b.steps.items b.run b.left b.fault was in
     elim c.then-bits-eq0.branch [
       | then-bits-eq0-via-then-bits-eq0 w ↦
           let zero : c.quiet_for-bits.result ≡ 0 = search rules in
@@ -227,7 +247,7 @@ returns-in-Ok-clause-longest g c =
     let same = script_is g (goal.at.returns-in-Ok-clause-longest g c).After-quiet_for-bits in
     let most = c.quiet_for-bits.ensures.most in let left = c.fewer-most.ensures.left in
     ends_quiet c.args.count n c.fewer-most.result b.left
-    (bus_with script b.steps.items (b.run + n) (b.left - n) b.fault _) (omega (arith, most, left))
+    (bus_with script b.starts b.steps.items (b.run + n) (b.left - n) b.fault _) (omega (arith, most, left))
     c.fewer-most.ensures.whole (struck_by b.struck.script script (b.run + n) (b.run + n) n n c.fewer-most.result
     same refl refl c.quiet_for-bits.ensures.longest)
 

@@ -41,7 +41,7 @@ pub run_until_told-requires : goal.run_until_told-requires
 run_until_told-requires g c =
     let far = c.loop-run.invariant.far in let early = c.loop-run-test.true in let left = far.left in
     let most = c.requires.most in record {
-      fit = still_for g.E.BusEnd g.B.Board g.met.E.BusEnd.same_node
+      fit = still_for g.E.BusEnd g.B.Board g.met.E.BusEnd.same_node g.met.E.BusEnd.same_links
           (moment c.args.self.now c.args.links.now c.args.board.now)
           (moment c.loop-run.self c.loop-run.links c.loop-run.board) far.keeps c.requires.fit;
       right = far.right;

@@ -8,12 +8,12 @@ use Rattle.sja_script.specs.Striking.{Strikes}
 use Rattle.sja_bus.specs.Inside.StrikesByBit.{Scripted}
 use Rattle.sja_wire.specs.declared.bus_fault.BusFault.{BusFault}
 use Rattle.sja_bus.specs.declared.seat.Seat.{Seat}
-use Rattle.sja_link.specs.Links.{AreEnds}
+use Rattle.sja_link.specs.Links.{AreEnds, HaveLinks}
 use Rattle.sja_wire.specs.Buses.{BusValue}
 use Rattle.sja_bus.specs.Moment.{moment}
 use Rattle.sja_wire.specs.Reasons.{room_for}
 use Rattle.sja_bus.specs.Inside.Refusing.{AreFree, HaveRoom}
-use Rattle.sja_bus.specs.Inside.Rows.{AreSeated, journals_of}
+use Rattle.sja_bus.specs.Inside.Rows.{AreBegun, AreSeated, journals_of}
 use Rattle.sja_bus.specs.UntilTold.{EndsUntilTold, HasFree, IsCalm, RunsNone, WorksUntold}
 use Rattle.sja_bus.specs.Inside.RunningOn.{bus_of, AnyBit, MayRunOn, RowsRunNone, SomeAborts, SomeTold}
 use Rattle.sja_bus.specs.Inside.RunningOn.{SomeUntold}
@@ -49,10 +49,21 @@ script_is g c = ap (λ (s : Scripted). s.script) c.untaken_bits.ensures.same
 
 -- the bus before, by the seats that run on
 begins : (g : _) (c : After-untaken_bits g) → let b = c.self.inside in
-    bus_of b.struck.script b.steps.items b.run b.left c.as_mut_slice-seats.result.now ≡ c.args.self.now
+    bus_of b.struck.script b.starts b.steps.items b.run b.left c.as_mut_slice-seats.result.now ≡ c.args.self.now
 begins g c = let b = c.self.inside in
-    bus_is b.struck.script b.steps.items b.run b.left b.fault b.seats.items c.as_mut_slice-seats.result.now
+    bus_is b.struck.script b.starts b.steps.items b.run b.left b.fault b.seats.items c.as_mut_slice-seats.result.now
     c.args.self.now c.as_mut_slice-seats.ensures.value (right g c) c.self.view_is
+
+-- no more activations had begun than there are links for, as many as the bus was made for
+begun_before : (g : _) (c : After-untaken_bits g) → AreBegun c.self.inside.starts c.as_mut_slice-seats.result.now
+begun_before g c =
+    subst (AreBegun c.self.inside.starts) (sym c.as_mut_slice-seats.ensures.value)
+    (c.self.invariant.0.begun (right g c))
+
+many_links : (g : _) (c : After-untaken_bits g) → HaveLinks g.E.BusEnd.links c.self.inside.starts c.args.links.now
+many_links g c =
+    let H : BusValue → Type 0 = λ w. HaveLinks g.E.BusEnd.links w.starts c.args.links.now in
+    subst H (sym c.self.view_is) c.requires.fit.many
 
 pub returns-then-not-may_run_untaken-clause-runs : goal.returns-then-not-may_run_untaken-clause-runs
 returns-then-not-may_run_untaken-clause-runs g c =
@@ -65,7 +76,8 @@ returns-then-not-may_run_untaken-clause-none g c = λ zero.
     let b = c.self.inside in let asked = g.B.Board.orders_are c.args.board.now in
     let Q : List Seat → Type 0 = λ l. SomeAborts asked (length l) ⊎ SomeUntold l in
     subst (RunsNone asked c.args.to_rest c.args.most) c.self.view_is
-    (held_by_port c.args.to_rest c.args.most b.struck.script b.steps.items b.run b.left b.fault b.seats.items asked
+    (held_by_port c.args.to_rest c.args.most b.struck.script b.starts b.steps.items b.run b.left b.fault b.seats.items
+    asked
     (subst Q c.as_slice.ensures.value (c.may_run_untaken.ensures.no (search rules))))
 
 pub returns-in-Ok-clause-none : goal.returns-in-Ok-clause-none
@@ -76,7 +88,8 @@ returns-in-Ok-clause-none g c = λ zero.
     let N : ℕ → Type 0 = λ m. HaveRoom (room_for m b.steps.items) b.seats.items in
     let Q : List Seat → Type 0 = RowsRunNone c.args.to_rest b.struck.script b.run c.args.most in
     subst (RunsNone asked c.args.to_rest c.args.most) c.self.view_is
-    (held_by_rows c.args.to_rest c.args.most b.struck.script b.steps.items b.run b.left b.fault b.seats.items asked
+    (held_by_rows c.args.to_rest c.args.most b.struck.script b.starts b.steps.items b.run b.left b.fault b.seats.items
+    asked
     (whole.bus (right g at)).ready (subst N (sym whole.bits) whole.rooms)
     (subst Q c.as_mut_slice-seats.ensures.value (c.in-Ok.ensures.runs.ends.none none)))
   where
@@ -94,7 +107,7 @@ returns-in-Ok-clause-calm g c = λ some.
     let P : List Seat → Type 0 = λ l. MayRunOn g.B.Board c.args.board.now l in
     let on = subst P c.as_slice.ensures.value (c.may_run_untaken.ensures.may may) in
     subst (IsCalm asked) c.self.view_is
-    (calm_bus c.args.to_rest c.args.most b.struck.script b.steps.items b.run b.left b.fault b.seats.items asked
+    (calm_bus c.args.to_rest c.args.most b.struck.script b.starts b.steps.items b.run b.left b.fault b.seats.items asked
     on.orders on.told)
 
 pub returns-then-not-may_run_untaken-clause-free : goal.returns-then-not-may_run_untaken-clause-free
@@ -107,7 +120,8 @@ returns-in-Ok-clause-free g c = λ some.
     let N : ℕ → Type 0 = λ m. HaveRoom (room_for m b.steps.items) b.seats.items in
     let F : List Seat → Type 0 = λ l. AreFree n l in
     subst (HasFree n) c.self.view_is
-    (free_bus c.args.to_rest c.args.most b.struck.script b.steps.items b.run b.left b.fault b.seats.items n some
+    (free_bus c.args.to_rest c.args.most b.struck.script b.starts b.steps.items b.run b.left b.fault b.seats.items n
+    some
     (subst F c.as_mut_slice-seats.ensures.value c.in-Ok.ensures.runs.ends.free)
     (subst N (sym whole.bits) whole.rooms))
 
@@ -129,9 +143,10 @@ returns-in-Ok-clause-longest g c = λ some.
     let script = c.untaken_bits.new.struck.script in
     let R : List Strike → Type 0 = λ l. RowsRunNone c.args.to_rest l (b.run + n) (c.args.most - n) now
     ⊎ SomeTold (g.B.Board.told c.args.board.now c.untaken_bits.new.board) now in
-    subst P (bus_is script b.steps.items (b.run + n) (b.left - n) b.fault _ now _ (sym (are_back g at)) (right g at)
+    subst P (bus_is script b.starts b.steps.items (b.run + n) (b.left - n) b.fault _ now _ (sym (are_back g at))
+    (right g at)
     refl)
-    (ended g.B.Board c.args.to_rest c.args.most n script b.steps.items (b.run + n) (b.left - n) now was
+    (ended g.B.Board c.args.to_rest c.args.most n script b.starts b.steps.items (b.run + n) (b.left - n) now was
     c.untaken_bits.new.links c.untaken_bits.new.board most runs.bus.ready
     (subst N all (subst H c.as_mut_slice-seats.ensures.value runs.rooms (room_for b.struck.bits b.steps.items)
     whole.rooms)) (subst R (sym (script_is g at)) c.in-Ok.ensures.runs.ends.why))
@@ -166,9 +181,10 @@ invariant_of-self g c =
     let whole = c.self.invariant.0 in let few = whole.few in let logs = whole.logs in let bits = whole.bits in
     let len = same_count g at in let enough = enough_left g at in let most = c.in-Ok.ensures.most in
     let H : List Seat → Type 0 = λ l. (m : ℕ → Room) → HaveRoom m l → HaveRoom m now in
-    let P : List Seat → Type 0 = λ l. IsWhole c.untaken_bits.new.struck b.steps.items (b.run + n) (b.left - n) b.fault l
+    let P : List Seat → Type 0 = λ l. IsWhole c.untaken_bits.new.struck b.starts b.steps.items (b.run + n) (b.left -
+    n) b.fault l
     (vec_capacity b.logs) in
-    let S : Scripted → Type 0 = λ s. IsWhole s b.steps.items (b.run + n) (b.left - n) b.fault now
+    let S : Scripted → Type 0 = λ s. IsWhole s b.starts b.steps.items (b.run + n) (b.left - n) b.fault now
     (vec_capacity b.logs) in (
       subst P (sym (are_back g at)) (subst S (sym c.untaken_bits.ensures.same) (record {
         few = omega (arith, len, few);
@@ -176,6 +192,8 @@ invariant_of-self g c =
         most = whole.most;
         asked = let asked = whole.asked in omega (arith, asked);
         bus = λ right. c.in-Ok.ensures.runs.runs.bus;
+        begun = λ right. c.in-Ok.ensures.runs.runs.begun b.starts
+            (subst (AreBegun b.starts) (sym c.as_mut_slice-seats.ensures.value) (whole.begun right));
         logs = omega (arith, len, logs);
         rooms = subst H c.as_mut_slice-seats.ensures.value c.untaken_bits.ensures.keeps.rooms
             (room_for b.struck.bits b.steps.items) whole.rooms;
@@ -189,11 +207,13 @@ invariant_of-self-in-Err g c =
     let b = c.self.inside in let n = c.in-Err.broken.after in let now = c.untaken_bits.new.seats in
     let f = c.in-Err.broken.fault in let enough = enough_left g at in let most = c.in-Err.ensures.most in
     let H : List Seat → Type 0 = λ l. (m : ℕ → Room) → HaveRoom m l → HaveRoom m now in
-    let P : List Seat → Type 0 = λ l. IsWhole c.untaken_bits.new.struck b.steps.items (b.run + n) (b.left - n) (Some f)
+    let P : List Seat → Type 0 = λ l. IsWhole c.untaken_bits.new.struck b.starts b.steps.items (b.run + n) (b.left -
+    n) (Some f)
     l (vec_capacity b.logs) in
-    let S : Scripted → Type 0 = λ s. IsWhole s b.steps.items (b.run + n) (b.left - n) (Some f) now
+    let S : Scripted → Type 0 = λ s. IsWhole s b.starts b.steps.items (b.run + n) (b.left - n) (Some f) now
     (vec_capacity b.logs) in (
-      subst P (sym (are_back g at)) (subst S (sym c.untaken_bits.ensures.same) (whole_broken b.struck b.steps.items
+      subst P (sym (are_back g at)) (subst S (sym c.untaken_bits.ensures.same) (whole_broken b.struck b.starts
+          b.steps.items
           b.run b.left (b.run + n) (b.left - n) b.fault f b.seats.items now (vec_capacity b.logs) (same_count g at)
           (omega arith) (omega (arith, most, enough))
           (subst H c.as_mut_slice-seats.ensures.value c.untaken_bits.ensures.keeps.rooms) c.self.invariant.0)),
@@ -205,15 +225,16 @@ returns-in-Ok-clause-runs g c =
     let at = (goal.at.returns-in-Ok-clause-runs g c).After-untaken_bits in
     let E = g.E.BusEnd in let B = g.B.Board in let b = c.self.inside in let n = c.in-Ok.bits in
     let now = c.untaken_bits.new.seats in
-    let N : List Strike → Type 0 = λ l. bus_of l b.steps.items (b.run + n) (b.left - n) now
-    ≡ bus_with c.untaken_bits.new.struck.script b.steps.items (b.run + n) (b.left - n) b.fault
+    let N : List Strike → Type 0 = λ l. bus_of l b.starts b.steps.items (b.run + n) (b.left - n) now
+    ≡ bus_with c.untaken_bits.new.struck.script b.starts b.steps.items (b.run + n) (b.left - n) b.fault
     (take b.seats.len (now ++ drop (length now) b.seats.items)) in
-    ran E B c.args.to_rest b.struck.script b.steps.items b.run b.left c.as_mut_slice-seats.result.now
+    ran E B c.args.to_rest b.struck.script b.starts b.steps.items b.run b.left c.as_mut_slice-seats.result.now
     c.untaken_bits.new.seats c.args.links.now c.untaken_bits.new.links c.args.board.now c.untaken_bits.new.board
     c.args.most c.untaken_bits.auto.seats c.untaken_bits.ensures.keeps.sames c.untaken_bits.ensures.keeps.others
     c.args.self.now
-    (begins g at) n _ c.in-Ok.ensures.most (enough_left g at)
-    (subst N (script_is g at) (bus_is c.untaken_bits.new.struck.script b.steps.items (b.run + n) (b.left - n) b.fault _
+    (begins g at) n _ (begun_before g at) c.in-Ok.ensures.most (enough_left g at)
+    (subst N (script_is g at) (bus_is c.untaken_bits.new.struck.script b.starts b.steps.items (b.run + n) (b.left - n)
+    b.fault _
     now _ (sym (are_back g at)) (right g at) refl)) c.in-Ok.ensures.runs.runs
 
 pub returns-in-Ok-clause-unstruck : goal.returns-in-Ok-clause-unstruck
@@ -228,9 +249,10 @@ returns-in-Err-clause-stops g c =
     let seats = c.as_mut_slice-seats.result.now in
     let N : ℕ → Type 0 = λ m. HaveRoom (room_for m b.steps.items) b.seats.items in
     let R : List Seat → Type 0 = λ l. HaveRoom (room_for (b.run + b.left) b.steps.items) l in
-    stopped E B c.args.to_rest b.struck.script b.steps.items b.run b.left seats c.untaken_bits.new.seats
+    stopped E B c.args.to_rest b.struck.script b.starts b.steps.items b.run b.left seats c.untaken_bits.new.seats
     c.args.links.now c.untaken_bits.new.links c.args.board.now c.untaken_bits.new.board c.args.most
     c.untaken_bits.auto.seats c.untaken_bits.ensures.keeps.sames c.untaken_bits.ensures.keeps.others c.args.self.now
-    (begins g at) c.in-Err.broken _ (enough_left g at)
+    (begins g at) c.in-Err.broken _ (begun_before g at) (many_links g at) (enough_left g at)
     (subst R (sym c.as_mut_slice-seats.ensures.value) (subst N (sym whole.bits) whole.rooms))
-    (script_is g at) refl refl refl refl (ap (λ (l : List Seat). journals_of l) (are_back g at)) c.in-Err.ensures.breaks
+    (script_is g at) refl refl refl refl refl (ap (λ (l : List Seat). journals_of l) (are_back g at))
+    c.in-Err.ensures.breaks

@@ -9,7 +9,8 @@ invariant_of-self c =
     let b = c.self.inside in let run = ap (λ (w : BusValue). w.run) c.self.view_is in
     let early = c.requires.later in
     let later : b.run ≤ c.args.strike.bit = omega (arith, run, early) in (
-      whole_after b.struck c.strike.new.self b.steps.items b.run b.left b.fault b.seats.items (vec_capacity b.logs)
+      whole_after b.struck c.strike.new.self b.starts b.steps.items b.run b.left b.fault b.seats.items (vec_capacity
+          b.logs)
           c.args.strike c.strike.result later c.strike.ensures.struck c.strike.ensures.bits c.strike.ensures.from
           c.strike.ensures.kept c.self.invariant.0,
       c.self.invariant.1,
