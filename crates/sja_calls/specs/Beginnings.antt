@@ -1,15 +1,13 @@
 -- How a session of a program in C begins (this project's own rule).
 use Rattle.std.specs.Prelude.{◌≡◌, ◌⊎◌, ◌==◌, ◌&&◌, ℕ, Bool, true, false, [], replicate}
-use Rattle.sja_wire.specs.Buses.{new_bus}
 use Rattle.sja_calls.specs.declared.call_fault.CallFault.{CallFault}
 use Rattle.sja_calls.specs.declared.call_fault.CallFault.TheVariants.{Version, Bits, Nodes, Memory}
 use Rattle.sja_calls.specs.declared.state.State.{State}
 use Rattle.sja_calls.specs.declared.state.State.TheVariants.{Going, Ended, Lost}
 use Rattle.sja_plan.specs.Growing.{plan_of}
 use Rattle.sja_plan.specs.Limits.{most_bits, most_steps}
-use Rattle.sja_driver.specs.Accesses.{most_deeds}
 use Rattle.sja_session.specs.Beginning.{IsVersion, IsBitCount, IsNodeCount, MayBegin, IsOutside, most_room}
-use Rattle.sja_session.specs.Beginning.{endless_bits, endless_room}
+use Rattle.sja_session.specs.Beginning.{endless_bits, endless_room, fresh_bus}
 use Rattle.sja_session.specs.Sessions.{SessionValue, IsAt, written}
 
 -- one without an end is asked for: version 3, and 0 bits
@@ -21,7 +19,7 @@ asks_endless version bits = (version == 3) && (bits == 0)
 pub record IsNewOf (s : SessionValue) (version bits nodes : ℕ) : Type 0 where
   pub may : MayBegin version bits nodes
   pub at : IsAt s (replicate nodes [])
-  pub bus : s.run.bus ≡ new_bus [] bits nodes (replicate nodes (most_deeds version (most_steps version)))
+  pub bus : s.run.bus ≡ fresh_bus version bits nodes (most_steps version)
   pub wrote : written s ≡ plan_of version bits (replicate nodes []) [] []
   pub room : s.room ≡ most_room version
 
@@ -29,7 +27,7 @@ pub record IsNewOf (s : SessionValue) (version bits nodes : ℕ) : Type 0 where
 pub record IsNewEndless (s : SessionValue) (nodes : ℕ) : Type 0 where
   pub may : IsNodeCount nodes
   pub at : IsAt s (replicate nodes [])
-  pub bus : s.run.bus ≡ new_bus [] endless_bits nodes (replicate nodes (most_deeds 3 endless_room.steps))
+  pub bus : s.run.bus ≡ fresh_bus 4 endless_bits nodes endless_room.steps
   pub wrote : written s ≡ plan_of 3 endless_bits (replicate nodes []) [] []
   pub room : s.room ≡ endless_room
 

@@ -1,4 +1,3 @@
-pub mod Activations
 pub mod Promised
 pub mod GoingOn
 pub mod Rounds

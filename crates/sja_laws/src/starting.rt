@@ -12,7 +12,7 @@ ghost use Rattle.sja_log.specs.Runs.{IsRun};
 ghost use Rattle.sja_plan.specs.Plan.{PlanValue};
 ghost use Rattle.sja_serial.specs.Serial.{Setup, SerialValue, StandsAt};
 ghost use Rattle.sja_session.specs.Sessions.{SessionValue, IsAt, IsEndless, IsSession};
-ghost use Rattle.sja_laws.specs.Activations.{HasActivations};
+ghost use Rattle.sja_link.specs.Activations.{HasActivations};
 
 /// A law: in a session without an end starts aren't used up. Whatever steps it did, each start that was tried in reset
 /// mode was done: none was refused since no activation was left.

@@ -97,7 +97,8 @@ pub record StandsAt (setup : Setup) (r : SerialValue) (deeds : List (List Deed))
   pub bits : r.bits ≡ r.bus.run
   pub count : HasNodes setup.nodes r
   pub deeds_count : length deeds ≡ setup.nodes
-  -- the links of each node, for as many activations as it has in this version
+  -- the links of each node, for as many activations as it has in this version, as the bus knows
+  pub links : r.bus.starts ≡ most_activations setup.version
   pub ends : AreEnds (λ (s : Deques). s.node) setup.nodes r.links
   pub starts : (node : ℕ) (l : Deques) → node < setup.nodes →
       (slice_index_or r.links node l).starts ≡ most_activations setup.version

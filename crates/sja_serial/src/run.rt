@@ -2,6 +2,7 @@
 
 ghost use Rattle.std.specs.Prelude.{◌≡◌, ◌<◌, List, [], length, map, replicate, IfOk, IfErr};
 ghost use Rattle.sja_wire.specs.Buses.{new_bus};
+ghost use Rattle.sja_link.specs.Sizes.{most_activations};
 ghost use Rattle.sja_driver.specs.Accesses.{Access, most_deeds};
 ghost use Rattle.sja_plan.specs.Plan.{NamesNode, step_counts};
 ghost use Rattle.sja_log.specs.Headline.{AreAccounts};
@@ -49,7 +50,7 @@ pub fn run_serial(alloc: Global, plan: &Plan) -> Result<RunLog, RunFault>
 pub(crate) fn new_run(alloc: Global, plan: &Plan) -> Result<SerialRun, OutOfMemory>
     ensures stands { IfOk result (λ r. StandsIn plan.now r (replicate (length plan.now.nodes) [])) }
     ensures bus { IfOk result (λ r. r.bus ≡ new_bus plan.now.strikes plan.now.bits (length plan.now.nodes)
-        (map (most_deeds plan.now.version) (step_counts plan.now))) }
+        (most_activations plan.now.version) (map (most_deeds plan.now.version) (step_counts plan.now))) }
 {
     plan.limits();
     let script = script_of(alloc, plan)?;
@@ -61,7 +62,7 @@ pub(crate) fn new_run(alloc: Global, plan: &Plan) -> Result<SerialRun, OutOfMemo
 pub(crate) fn take_turns(run: &mut SerialRun, plan: &Plan) -> End
     requires stands { StandsIn plan.now run.old (replicate (length plan.now.nodes) []) }
     requires bus { run.old.bus ≡ new_bus plan.now.strikes plan.now.bits (length plan.now.nodes)
-        (map (most_deeds plan.now.version) (step_counts plan.now)) }
+        (most_activations plan.now.version) (map (most_deeds plan.now.version) (step_counts plan.now)) }
     ensures { TakesTurns plan.now run.new result }
 {
     for turn in plan.turns() {

@@ -43,6 +43,7 @@ impl Model for SerialRun {
 impl SerialRun {
     ghost use Rattle.std.specs.Prelude.{◌≡◌, ◌<◌, ◌≤◌, [], length, map, replicate, IfOk};
     ghost use Rattle.sja_wire.specs.Buses.{new_bus};
+    ghost use Rattle.sja_link.specs.Sizes.{most_activations};
     ghost use Rattle.sja_driver.specs.Accesses.{most_deeds};
     ghost use Rattle.sja_serial.specs.Serial.{CanBeMade, StandsBy, plan_version, setup_with};
 
@@ -64,7 +65,7 @@ impl SerialRun {
         ensures stands { IfOk result (λ r. StandsBy (setup_with (plan_version version) bits script steps.items) r
             (replicate (length steps.items) [])) }
         ensures bus { IfOk result (λ r. r.bus ≡ new_bus script bits (length steps.items)
-            (map (most_deeds (plan_version version)) steps.items)) }
+            (most_activations (plan_version version)) (map (most_deeds (plan_version version)) steps.items)) }
     {
         SerialRun::made(alloc, version.min(LAST_OF_PLANS), bits, steps, script)
     }
@@ -83,7 +84,7 @@ impl SerialRun {
         ensures stands { IfOk result (λ r. StandsBy (setup_with 4 bits script steps.items) r
             (replicate (length steps.items) [])) }
         ensures bus { IfOk result (λ r. r.bus ≡ new_bus script bits (length steps.items)
-            (map (most_deeds 4) steps.items)) }
+            (most_activations 4) (map (most_deeds 4) steps.items)) }
     {
         SerialRun::made(alloc, WITHOUT_END, bits, steps, script)
     }
@@ -103,14 +104,15 @@ impl SerialRun {
         ensures stands { IfOk result (λ r. StandsBy (setup_with version bits script steps.items) r
             (replicate (length steps.items) [])) }
         ensures bus { IfOk result (λ r. r.bus ≡ new_bus script bits (length steps.items)
-            (map (most_deeds version) steps.items)) }
+            (most_activations version) (map (most_deeds version) steps.items)) }
     {
         let nodes = steps.len() as u8;
         let board = SerialBoard::new(alloc, nodes, version)?;
-        let links = serial_links(alloc, nodes, most_activations(version))?;
+        let starts = most_activations(version);
+        let links = serial_links(alloc, nodes, starts)?;
         let deeds = deeds_for(alloc, version, steps.as_slice())?;
         let drivers = new_drivers(alloc, version, steps.as_slice(), deeds.as_slice())?;
-        let bus = Bus::new(alloc, bits, deeds, script)?;
+        let bus = Bus::new(alloc, bits, starts, deeds, script)?;
         Ok(SerialRun {
             bus,
             board,

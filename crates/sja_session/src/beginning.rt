@@ -2,6 +2,7 @@
 
 ghost use Rattle.std.specs.Prelude.{◌≡◌, ◌≢◌, ◌<◌, [], length, map, replicate, OnOk, IfOk, IfErr};
 ghost use Rattle.sja_wire.specs.Buses.{new_bus};
+ghost use Rattle.sja_link.specs.Sizes.{most_activations};
 ghost use Rattle.sja_driver.specs.Accesses.{most_deeds};
 ghost use Rattle.sja_plan.specs.Limits.{most_bits};
 ghost use Rattle.sja_serial.specs.Serial.{CanBeMade, StandsBy, setup_with};
@@ -69,6 +70,7 @@ pub(crate) fn run_for(
         StandsBy (setup_with (run_version (record plan.now { bits = bits })) bits script rooms.items) r
         (replicate (length rooms.items) [])) }
     ensures bus { IfOk result (λ r. r.bus ≡ new_bus script bits (length rooms.items)
+        (most_activations (run_version (record plan.now { bits = bits })))
         (map (most_deeds (run_version (record plan.now { bits = bits }))) rooms.items)) }
 {
     plan.limits();

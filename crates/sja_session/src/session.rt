@@ -2,6 +2,7 @@
 
 use super::beginning::{check, run_for, strikes_for};
 use super::lists::empty_lists;
+use super::no_plan::NoPlan;
 use super::plan_so_far::copied_strikes;
 use super::session_fault::SessionFault;
 use super::session_room::SessionRoom;
@@ -57,13 +58,15 @@ impl Model for Session {
 impl Session {
     ghost use Rattle.std.specs.Prelude.{◌≡◌, ◌<◌, ◌≤◌, [], replicate, true, false, IfOk, IfErr, OnOk, length};
     ghost use Rattle.sja_wire.specs.Buses.{new_bus};
+    ghost use Rattle.sja_link.specs.Sizes.{most_activations};
     ghost use Rattle.sja_driver.specs.Accesses.{most_deeds};
     ghost use Rattle.sja_plan.specs.Growing.{plan_of};
     ghost use Rattle.sja_plan.specs.Limits.{most_steps};
     ghost use Rattle.sja_plan.specs.Plan.{IsInLimits};
+    ghost use Rattle.sja_session.specs.declared.no_plan.NoPlan.TheVariants.{Endless};
     ghost use Rattle.sja_session.specs.Beginning.{MayBegin, IsEndlessFault, IsNodeCount, IsRoom, IsSessionFault};
-    ghost use Rattle.sja_session.specs.Beginning.{endless_bits, endless_room, most_room};
-    ghost use Rattle.sja_session.specs.Sessions.{HasEnd, IsAt, IsEndless, written};
+    ghost use Rattle.sja_session.specs.Beginning.{endless_bits, endless_room, fresh_bus, most_room};
+    ghost use Rattle.sja_session.specs.Sessions.{HasEnd, IsAt, IsEndless, run_version, written};
     ghost use Rattle.sja_session.specs.Stepping.{steps_done_of};
     ghost use Rattle.sja_session.specs.Inside.Written.{IsBare, MayGoBy};
 
@@ -74,8 +77,7 @@ impl Session {
     /// Errors: those of [`with_room`](Session::with_room), but for the two of the room.
     pub fn new(alloc: Global, version: u8, bits: u32, nodes: u8) -> Result<Session, SessionFault>
         ensures at { IfOk result (λ s. IsAt s (replicate nodes [])) }
-        ensures bus { IfOk result (λ s. s.run.bus ≡ new_bus [] bits nodes
-            (replicate nodes (most_deeds version (most_steps version)))) }
+        ensures bus { IfOk result (λ s. s.run.bus ≡ fresh_bus version bits nodes (most_steps version)) }
         ensures plan { IfOk result (λ s. written s ≡ plan_of version bits (replicate nodes []) [] []) }
         ensures room { IfOk result (λ s. s.room ≡ most_room version) }
         ensures limits { OnOk result (MayBegin version bits nodes) }
@@ -100,8 +102,7 @@ impl Session {
         room: SessionRoom,
     ) -> Result<Session, SessionFault>
         ensures at { IfOk result (λ s. IsAt s (replicate nodes [])) }
-        ensures bus { IfOk result (λ s. s.run.bus
-            ≡ new_bus [] bits nodes (replicate nodes (most_deeds version room.steps))) }
+        ensures bus { IfOk result (λ s. s.run.bus ≡ fresh_bus version bits nodes room.steps) }
         ensures plan { IfOk result (λ s. written s ≡ plan_of version bits (replicate nodes []) [] []) }
         ensures room { IfOk result (λ s. s.room ≡ room) }
         ensures limits { OnOk result (MayBegin version bits nodes × IsRoom version room) }
@@ -121,8 +122,7 @@ impl Session {
     /// [`SessionFault::Memory`] where memory was refused.
     pub fn endless(alloc: Global, nodes: u8) -> Result<Session, SessionFault>
         ensures at { IfOk result (λ s. IsAt s (replicate nodes [])) }
-        ensures bus { IfOk result (λ s. s.run.bus
-            ≡ new_bus [] endless_bits nodes (replicate nodes (most_deeds 3 endless_room.steps))) }
+        ensures bus { IfOk result (λ s. s.run.bus ≡ fresh_bus 4 endless_bits nodes endless_room.steps) }
         ensures plan { IfOk result (λ s. written s ≡ plan_of 3 endless_bits (replicate nodes []) [] []) }
         ensures room { IfOk result (λ s. s.room ≡ endless_room) }
         ensures limits { OnOk result (IsNodeCount nodes) }
@@ -148,6 +148,7 @@ impl Session {
         requires may { MayGoBy plan bits room }
         ensures at { IfOk result (λ s. IsAt s (replicate (length plan.nodes) [])) }
         ensures bus { IfOk result (λ s. s.run.bus ≡ new_bus plan.strikes bits (length plan.nodes)
+            (most_activations (run_version (record plan { bits = bits })))
             (replicate (length plan.nodes) (most_deeds plan.version room.steps))) }
         ensures plan { IfOk result (λ s. written s ≡ record plan { bits = bits }) }
         ensures room { IfOk result (λ s. s.room ≡ room) }
@@ -214,6 +215,28 @@ impl Session {
         ensures no { result ≡ false → HasEnd self.now }
     {
         self.bits > u64::from(most_bits(self.plan.version()))
+    }
+
+    /// The strikes of its bits.
+    ///
+    /// Error: [`NoPlan::Endless`] where it is without an end: strikes that have passed are forgotten.
+    pub fn strikes(&self) -> Result<&[Strike], NoPlan>
+        ensures value { IfOk result (λ s. s.now ≡ self.now.plan.strikes) }
+        ensures end { OnOk result (HasEnd self.now) }
+        ensures err { IfErr result (λ e. (e ≡ Endless) × IsEndless self.now) }
+    {
+        if self.is_endless() {
+            return Err(NoPlan::Endless);
+        }
+        Ok(self.plan.strikes())
+    }
+
+    /// Its bits, nodes and strikes are within the limits of a plan, where it has an end. It does nothing: a caller who
+    /// needs a limit calls it for its contract.
+    pub fn limits(&self)
+        ensures { HasEnd self.now → IsInLimits self.now.plan }
+    {
+        self.plan.limits();
     }
 
     /// How many steps of a node are done.

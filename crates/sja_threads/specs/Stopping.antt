@@ -11,7 +11,7 @@ use Rattle.sja_rings.specs.declared.ring_bus.RingBus.{RingBus}
 use Rattle.sja_rings.specs.declared.ring_driver.RingDriver.{RingDriver}
 use Rattle.sja_rings.specs.Ended.{EndsBus, EndsDriver, HasBusNote, HasDriverNote}
 use Rattle.sja_rings.specs.Ends.{OneLink, link_of_bus}
-use Rattle.sja_rings.specs.NodeRings.{node_of_bus, rings_of_bus, NodeBusLists, SameNodeBus}
+use Rattle.sja_rings.specs.NodeRings.{node_of_bus, links_of_bus, rings_of_bus, NodeBusLists, SameNodeBus}
 use Rattle.sja_rings.specs.NodeRings.{HasNoPlaceDown, ShowsNothingUp}
 use Rattle.sja_plan.specs.Plan.{PlanValue, steps_at}
 use Rattle.sja_driver.specs.Accesses.{most_deeds}
@@ -33,7 +33,7 @@ use Rattle.sja_threads.specs.Gathering.{AreBusEnds, StandFor}
 abbrev pub ring_ends : Ends NodeBus
 ring_ends = record {
   node = node_of_bus;
-  links = λ (b : NodeBus). length (rings_of_bus b);
+  links = links_of_bus;
   stands = NodeBusLists;
   same = SameNodeBus;
   full = HasNoPlaceDown;
@@ -52,6 +52,7 @@ pub record StopsOn (counts : List ℕ) (plan : PlanValue) (after : List NodeBus)
   pub now : BusValue
   pub links : List NodeBus
   pub script : was.script ≡ plan.strikes
+  pub starts : was.starts ≡ 64
   pub steps : was.steps ≡ counts
   pub bits : was.run + was.left ≡ plan.bits
   pub nodes : length was.journals ≡ length plan.nodes

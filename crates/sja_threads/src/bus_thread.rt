@@ -30,9 +30,9 @@ pub(crate) struct BusThread {
 
 impl BusThread {
     ghost use Rattle.std.specs.Prelude.{◌≡◌, ◌≢◌, ◌≤◌, ◌+◌, true, List, length, Ok, IfOk, IfErr, OnOk};
-    ghost use Rattle.sja_link.specs.Links.{AreEnds};
+    ghost use Rattle.sja_link.specs.Links.{AreEnds, HaveLinks};
     ghost use Rattle.sja_plan.specs.Plan.{PlanValue};
-    ghost use Rattle.sja_rings.specs.NodeRings.{node_of_bus, ShowsNothingUp};
+    ghost use Rattle.sja_rings.specs.NodeRings.{links_of_bus, node_of_bus, ShowsNothingUp};
     ghost use Rattle.sja_wire.specs.Buses.{AllDry};
     ghost use Rattle.sja_threads.specs.declared.round.Round.TheVariants.{Ran, Rests, Spent};
     ghost use Rattle.sja_threads.specs.Needed.{AllAtRest, last_awaited};
@@ -46,6 +46,7 @@ impl BusThread {
     /// Error: what the bus answers.
     fn gather(&mut self) -> Result<(), BusFault>
         requires ends { AreEnds node_of_bus (length self.old.bus.journals) self.old.links.items }
+        requires links { HaveLinks links_of_bus self.old.bus.starts self.old.links.items }
         ensures on { OnOk result ((plan : PlanValue) → IsUnderWay plan self.old → GoesOn plan self.old self.new) }
         ensures run { self.new.run ≡ self.old.run }
         ensures spent { self.new.spent ≡ self.old.spent }

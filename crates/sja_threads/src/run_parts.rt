@@ -13,6 +13,7 @@ use super::thread_start::ThreadStart;
 use can_frame::OutOfMemory;
 use sja_bus::Bus;
 use sja_driver::{WorkLog, most_deeds};
+use sja_link::ACTIVATIONS;
 use sja_log::script_of;
 use sja_plan::Plan;
 use sja_rings::{NodeBus, NodeDriver, node_pair};
@@ -50,7 +51,7 @@ impl<G: Gate> RunParts<G> {
         let nodes = plan.nodes();
         let script = script_of(alloc, plan)?;
         let steps = deeds_for(alloc, plan)?;
-        let bus = Bus::new(alloc, plan.bits() as u64, steps, script)?;
+        let bus = Bus::new(alloc, plan.bits() as u64, ACTIVATIONS, steps, script)?;
         let mut links = Vec::new(alloc);
         let mut lists = Vec::new(alloc);
         let starts = starts_of(alloc, plan, gates, &mut links, &mut lists)?;

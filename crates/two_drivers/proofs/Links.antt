@@ -1,45 +1,49 @@
--- The links of two nodes, as drivers and bus leave them: each keeps its node.
-use Rattle.std.proofs.Common.{◌≡◌, ◌∙◌, ◌<◌, ◌++◌, ℕ, List, length, take, drop, refl, sym, ap}
+-- The links of two nodes, as drivers and bus leave them: each keeps its node, and has one link.
+use Rattle.std.proofs.Common.{◌≡◌, ◌∙◌, ◌<◌, ◌++◌, ℕ, List, length, take, drop, refl, sym, ap, subst, arith}
 use Rattle.std.proofs.Common.{slice_index_or, slice_set}
 use Rattle.std.proofs.Math.Seq.{take-append_seam}
 use Rattle.lemmas.specs.Related.{EachRelated}
 use Rattle.lemmas.proofs.Related.{each_one}
 use Rattle.sja_link.specs.Deques.{AreAlike, Deques}
-use Rattle.sja_link.specs.Links.{AreEnds}
+use Rattle.sja_link.specs.Links.{AreEnds, HaveLinks}
 use Rattle.sja_link.specs.NewLinks.{AreNewLinks}
-use Rattle.sja_bus.proofs.AllNodes.Many.{ends_kept}
+use Rattle.sja_bus.proofs.AllNodes.Many.{ends_kept, links_kept}
 
 abbrev node_of : Deques → ℕ
 node_of links = links.node
 
-abbrev IsOfOne : Deques → Deques → Type 0
-IsOfOne was now = now.node ≡ was.node
+abbrev starts_of : Deques → ℕ
+starts_of links = links.starts
 
-abbrev pub AreOfTwo : List Deques → Type 0
-AreOfTwo links = AreEnds node_of 2 links
+pub record AreOfTwo (links : List Deques) : Type 0 where
+  pub ends : AreEnds node_of 2 links
+  pub many : HaveLinks starts_of 1 links
 
 -- new ones are those of two nodes
-pub when_new : (links : List Deques) (starts : ℕ) → AreNewLinks 2 starts links → AreOfTwo links
-when_new links starts new = record {
-  count = new.count;
-  own = λ node d few. ap node_of (new.each node d few);
+pub when_new : (links : List Deques) → AreNewLinks 2 1 links → AreOfTwo links
+when_new links new = record {
+  ends = record { count = new.count; own = λ node d few. ap node_of (new.each node d few) };
+  many = λ k d few. ap starts_of (new.each k d (let two = new.count in omega (arith, two, few)));
 }
 
 -- they are still where each is the same link, as after bits
 pub when_same : (links now : List Deques) → EachRelated AreAlike links now → AreOfTwo links → AreOfTwo now
-when_same links now sames are = ends_kept node_of AreAlike (λ x y same. same.0) links now 2 2 refl sames are
+when_same links now sames are = record {
+  ends = ends_kept node_of AreAlike (λ x y same. same.0) links now 2 2 refl sames are.ends;
+  many = links_kept starts_of AreAlike (λ x y same. same.1) 1 1 links now refl sames are.many;
+}
 
--- and where one is of the same node, as after a call of its driver
+-- and where one is, as after a call of its driver
 pub when_one : (links : List Deques) (place : ℕ) (was now : Deques) → place < length links →
-    was ≡ slice_index_or links place was → IsOfOne was now → AreOfTwo links → AreOfTwo (slice_set links place now)
+    was ≡ slice_index_or links place was → AreAlike was now → AreOfTwo links → AreOfTwo (slice_set links place now)
 when_one links place was now few here same are =
-    ends_kept node_of IsOfOne (λ x y same. same) links (slice_set links place now) 2 2 refl
-    (each_one IsOfOne (λ x. refl) links place was now few (same ∙ ap node_of here)) are
+    when_same links (slice_set links place now) (each_one AreAlike (λ x. (refl, refl)) links place was now few
+    (subst (λ (x : Deques). AreAlike x now) here same)) are
 
 -- whose the links at a place are
 pub own_node : (links : List Deques) (node : ℕ) (here : Deques) → AreOfTwo links → node < 2 →
     here ≡ slice_index_or links node here → here.node ≡ node
-own_node links node here are few is = ap node_of is ∙ are.own node here few
+own_node links node here are few is = ap node_of is ∙ are.ends.own node here few
 
 -- what a vector has at a place, after these were written over all that it had
 pub written : (old now : List Deques) (count place : ℕ) (here : Deques) → length now ≡ count →

@@ -20,6 +20,9 @@ const SENT: [u8; 5] = [0x02, 0x24, 0x60, 0x11, 0x22];
 /// The command that requests a transmission (SJA1000 data sheet, 6.4.4).
 const TRANSMIT: u8 = 1 << letters::TR;
 
+/// For how many starts of its controller each node has links.
+const STARTS: u64 = 1;
+
 /// Answers the exit status: 0 where the message was released and printed, else 1.
 fn main(rt: HostRuntime) -> ExitCode {
     match pass_and_print(&rt) {
@@ -43,8 +46,7 @@ fn pass_and_print(rt: &HostRuntime) -> Option<()> {
 /// refused.
 fn passed_on(alloc: Global, message: &Message) -> Option<Message> {
     let mut bus = bus_of_two(alloc)?;
-    // the links of each node are for one start of its controller
-    let mut links = serial_links(alloc, 2, 1).ok()?;
+    let mut links = serial_links(alloc, 2, STARTS).ok()?;
     let mut board = SerialBoard::new(alloc, 2, 1).ok()?;
     send(&mut links[0], &mut board.ports[0], message)?;
     let Ok(mut receiver) = Driver::new(1).start(&mut links[1], &mut board.ports[1]) else {
@@ -56,16 +58,18 @@ fn passed_on(alloc: Global, message: &Message) -> Option<Message> {
 
 /// A bus of two nodes for 1000 bits, with room for ten steps of each driver. Nothing where memory is refused.
 fn bus_of_two(alloc: Global) -> Option<Bus>
-    ensures { IfSome result (λ bus. length bus.journals ≡ 2) }
+    ensures nodes { IfSome result (λ bus. length bus.journals ≡ 2) }
+    ensures starts { IfSome result (λ bus. bus.starts ≡ 1) }
 {
     let steps = Vec::from_elem(alloc, 10, 2).ok()?;
-    Bus::new(alloc, 1000, steps, FaultScript::of(Vec::new(alloc))).ok()
+    Bus::new(alloc, 1000, STARTS, steps, FaultScript::of(Vec::new(alloc))).ok()
 }
 
 /// Starts the driver of node 0 over its links, and asks it to send this message. Nothing where a call is refused.
 fn send(links: &mut DequeLinks, port: &mut Port, message: &Message) -> Option<()>
     requires { links.old.node ≡ 0 }
-    ensures { links.new.node ≡ links.old.node }
+    ensures node { links.new.node ≡ links.old.node }
+    ensures starts { links.new.starts ≡ links.old.starts }
 {
     let mut driver = Driver::new(0).start(links, port).ok()?;
     driver.load(port, message).ok()?;

@@ -1,29 +1,24 @@
 -- Of a node no more activations begin than its version has.
-use Rattle.std.proofs.Common.{◌≡◌, ◌≢◌, ◌+◌, ◌<◌, ◌≤◌, ◌==◌, ℕ, zero, suc, Bool, true, false, cond, List, [], ◌∷◌}
-use Rattle.std.proofs.Common.{◌++◌, length, refl, sym, ap, ◌∙◌, subst, arith, inl, inr}
+use Rattle.std.proofs.Common.{◌≡◌, ◌≢◌, ◌+◌, ◌<◌, ◌≤◌, ℕ, zero, suc, Bool, cond, List, [], ◌∷◌}
+use Rattle.std.proofs.Common.{◌++◌, refl, sym, ap, ◌∙◌, arith, inl, inr}
 use Rattle.std.proofs.lemmas.Bool.{cases_lt, ne_eqb}
 use Rattle.lemmas.specs.Gathering.{total}
 use Rattle.lemmas.specs.Picking.{EachAfter}
 use Rattle.lemmas.proofs.Gathered.{total_push}
 use Rattle.sja_link.specs.declared.up.Up.{Up}
 use Rattle.sja_link.specs.declared.up.Up.TheVariants.{Start as StartItem}
-use Rattle.sja_link.specs.declared.entry.Entry.{Entry}
-use Rattle.sja_link.specs.declared.entry.Entry.TheVariants.{Up as Item}
-use Rattle.sja_link.specs.BitEntries.{IsRead}
+use Rattle.sja_link.specs.Activations.{HasActivations}
 use Rattle.sja_link.specs.Carried.{taken_of}
-use Rattle.sja_link.specs.Links.{stops_of}
 use Rattle.sja_link.specs.Parts.{part}
-use Rattle.sja_link.specs.Places.{past, place_of}
+use Rattle.sja_link.specs.Places.{place_of}
 use Rattle.sja_link.specs.Sizes.{most_activations}
-use Rattle.sja_link.proofs.JournalEntries.EachInPart.{place_both}
-use Rattle.sja_link.proofs.JournalEntries.Entering.{all_rise}
+use Rattle.sja_link.proofs.Growing.Activations.{has_activations}
 use Rattle.sja_link.proofs.JournalEntries.Openings.{part_opens}
 use Rattle.sja_driver.specs.Deeds.{AreAnswered, Deed, FitsState, deeds_of, given_in, is_active, opened_by, opens_by}
 use Rattle.sja_driver.specs.Deeds.{section_from}
 use Rattle.sja_driver.proofs.Step.GivenKinds.{starts_few}
 use Rattle.sja_log.specs.Log.{NodeValue}
 use Rattle.sja_log.specs.Runs.{IsTrace}
-use Rattle.sja_laws.specs.Activations.{HasActivations}
 
 -- ---- a driver opens no more
 
@@ -58,20 +53,6 @@ gave_opened deeds a gave = elim (cases_lt (opened_by deeds) a) [
   | inl less ↦ absurd (gave (ap given_in (section_none 0 deeds a (omega (arith, less)))))
   | inr more ↦ more
 ]
-
--- ---- a journal
-
--- where an item is taken on the link that is read, fewer activations have ended than have begun by the end
-read_few : (most : ℕ) (j : List Entry) → (place_of j).activation ≤ most → (front rest : List Entry) (u : Up) →
-    j ≡ front ++ Item u ∷ rest → IsRead front u → stops_of front < most
-read_few most j begun front rest u whole read =
-    let far = all_rise (past (place_of front) (Item u)) rest in
-    let is = ap (λ (l : List Entry). (place_of l).activation) whole
-    ∙ ap (λ p. p.activation) (place_both front (Item u ∷ rest)) in
-    let rises = far.activation in omega (arith, begun, is, rises, read)
-
-pub has_activations : (most : ℕ) (j : List Entry) → (place_of j).activation ≤ most → HasActivations most j
-has_activations most j begun = record { begun = begun; read = read_few most j begun }
 
 -- ---- a node of a log
 

@@ -29,7 +29,8 @@ use Rattle.sja_log.proofs.OneNode.Newly.{new_node}
 -- a run to which nothing happened stands where no driver did anything
 pub stands_new : (setup : Setup) (steps : List ℕ) (bus : BusValue) (drivers : List LoggedDriver)
     (ports : List Registers)
-    (links : List Deques) → IsSetup setup → bus ≡ new_bus setup.strikes setup.bits setup.nodes setup.steps →
+    (links : List Deques) → IsSetup setup →
+    bus ≡ new_bus setup.strikes setup.bits setup.nodes (most_activations setup.version) setup.steps →
     length drivers ≡ setup.nodes → AreNew setup.version steps setup.steps setup.nodes drivers →
     ports ≡ replicate setup.nodes (at_power_on setup.version) →
     AreNewLinks setup.nodes (most_activations setup.version) links →
@@ -49,6 +50,7 @@ stands_new setup steps bus drivers ports links may bus_is driver_count made port
         ports = ap (λ l. length l) ports_are ∙ length-replicate nodes (at_power_on setup.version);
       };
       deeds_count = length-replicate setup.nodes [];
+      links = ap (λ (b : BusValue). b.starts) bus_is;
       ends = record {
         count = fresh.count;
         own = λ node l less. ap (λ (s : Deques). s.node) (fresh.each node l less);
@@ -94,7 +96,7 @@ no_deeds_all (suc n) = ap (λ l. [] ∷ l) (no_deeds_all n)
 pub stands_by_new : (setup : Setup) (steps : List ℕ) (bus : BusValue) (drivers : List LoggedDriver)
     (ports : List Registers) (links : List Deques) → IsSetup setup →
     setup.steps ≡ map (most_deeds setup.version) steps → length steps ≡ setup.nodes →
-    bus ≡ new_bus setup.strikes setup.bits setup.nodes setup.steps →
+    bus ≡ new_bus setup.strikes setup.bits setup.nodes (most_activations setup.version) setup.steps →
     length drivers ≡ setup.nodes → AreNew setup.version steps setup.steps setup.nodes drivers →
     ports ≡ replicate setup.nodes (at_power_on setup.version) →
     AreNewLinks setup.nodes (most_activations setup.version) links →

@@ -1,5 +1,5 @@
 -- A step of a driver that is entered as done, once its deeds are.
-use Rattle.std.proofs.Common.{◌≡◌, ◌+◌, ◌*◌, ◌<◌, ◌≤◌, ◌++◌, ℕ, zero, suc, List, [], ◌∷◌}
+use Rattle.std.proofs.Common.{◌≡◌, ◌+◌, ◌<◌, ◌++◌, ℕ, zero, suc, List, [], ◌∷◌}
 use Rattle.std.proofs.Common.{length}
 use Rattle.std.proofs.Common.{sym, ap, ◌∙◌, subst, arith, inl, inr}
 use Rattle.std.proofs.lemmas.Bool.{cases_eq}
@@ -120,6 +120,7 @@ module _ {setup : Setup} {mid now : SerialValue} {node : ℕ} {answer : StepAnsw
         ports = h.count.ports;
       };
       deeds_count = h.deeds_count;
+      links = h.links;
       ends = h.ends;
       starts = h.starts;
       own = owner;

@@ -5,7 +5,7 @@ use Rattle.std.specs.Prelude.{◌≢◌, None, slice_index_or}
 use Rattle.std.proofs.lemmas.List.{ext_get_or}
 use Rattle.sja_link.specs.declared.entry.Entry.{Entry}
 use Rattle.sja_link.specs.Accounts.{Account}
-use Rattle.sja_link.specs.Deques.{Deques, Lies, AreAlike, up_on}
+use Rattle.sja_link.specs.Deques.{Lies, AreAlike, up_on}
 use Rattle.lemmas.specs.Related.{EachRelated}
 use Rattle.lemmas.proofs.Lists.{some_of}
 use Rattle.sja_regs.specs.Registers.{at_power_on}
@@ -27,7 +27,8 @@ use Rattle.sja_serial.proofs.ManyBits.StillBits.{with_none, keeps_still, run_at,
 
 module _ (setup : Setup) (r n : SerialValue) (deeds : List (List Deed)) (h : StandsAt setup r deeds)
     (right : n.bus.fault ≡ None) (script : n.bus.script ≡ r.bus.script)
-    (room : n.bus.steps ≡ r.bus.steps) (journals : length n.bus.journals ≡ length r.bus.journals)
+    (starts : n.bus.starts ≡ r.bus.starts) (room : n.bus.steps ≡ r.bus.steps)
+    (journals : length n.bus.journals ≡ length r.bus.journals)
     (drivers : n.drivers ≡ r.drivers) (ports : n.ports ≡ r.ports)
     (sames : EachRelated AreAlike r.links n.links)
     (kept : KeepsAll Lies r.bus.journals n.bus.journals r.links n.links) where
@@ -60,6 +61,7 @@ module _ (setup : Setup) (r n : SerialValue) (deeds : List (List Deed)) (h : Sta
   is_run count run left bits grown = let less : r.bus.left - count ≡ n.bus.left = omega (arith, left) in
       λ i. run_now (record {
         script = sym script i;
+        starts = sym starts i;
         steps = sym room i;
         run = sym run i;
         left = less i;

@@ -38,7 +38,8 @@ cuts_of h m less = let l = h.lawful m less in record { found = l.found; cut = l.
 
 module _ (setup : Setup) (r n : SerialValue) (deeds : List (List Deed)) (h : StandsAt setup r deeds)
     (right : n.bus.fault ≡ None) (script : n.bus.script ≡ r.bus.script)
-    (room : n.bus.steps ≡ r.bus.steps) (run : n.bus.run ≡ r.bus.run + 1) (left : n.bus.left + 1 ≡ r.bus.left)
+    (starts : n.bus.starts ≡ r.bus.starts) (room : n.bus.steps ≡ r.bus.steps)
+    (run : n.bus.run ≡ r.bus.run + 1) (left : n.bus.left + 1 ≡ r.bus.left)
     (journals : length n.bus.journals ≡ length r.bus.journals) (drivers_are : n.drivers ≡ r.drivers)
     (bits_are : n.bits ≡ r.bits + 1)
     (ports : length n.ports ≡ length r.ports)
@@ -102,6 +103,7 @@ module _ (setup : Setup) (r n : SerialValue) (deeds : List (List Deed)) (h : Sta
     deeds_count = h.deeds_count;
     may = h.may;
     steps = room ∙ h.steps;
+    links = starts ∙ h.links;
     ends = still_ends h.ends sames;
     starts = still_starts (most_activations setup.version) r.links n.links h.starts sames;
     own = λ m d less. ap (λ (l : List LoggedDriver). node_of (slice_index_or l m d)) drivers_are ∙ h.own m d less;

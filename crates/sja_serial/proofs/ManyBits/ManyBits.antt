@@ -1,5 +1,5 @@
 -- Bits that a bus ran one after another: each of them is a bit of the run.
-use Rattle.std.proofs.Common.{◌≡◌, ℕ, ◌+◌, ◌≤◌, Bool, true, false, List, [], length, refl, sym, ap, ◌∙◌, subst, arith}
+use Rattle.std.proofs.Common.{◌≡◌, ℕ, ◌+◌, ◌≤◌, Bool, true, false, List, length, refl, sym, ap, ◌∙◌, subst, arith}
 use Rattle.std.specs.Prelude.{None}
 use Rattle.sja_link.specs.Deques.{Deques}
 use Rattle.sja_bus.specs.declared.board.Board.{Ghosts as Ports}
@@ -106,7 +106,7 @@ module _ (setup : Setup) (deeds : List (List Deed)) (drivers : List LoggedDriver
       TakesBit setup deeds (run_then drivers was) (run_then drivers now)
   one_bit was now t b =
       takes_bit setup (run_then drivers was) (run_then drivers now) deeds t.stands b.right b.keeps.script
-      b.keeps.steps b.run b.left b.keeps.nodes refl b.run b.keeps.others.0 b.kept b.keeps.sames
+      b.keeps.starts b.keeps.steps b.run b.left b.keeps.nodes refl b.run b.keeps.others.0 b.kept b.keeps.sames
       b.bit (cuts_of t.lawful) b.lawful
 
   module _ {One : ℕ → SerialMoment → SerialMoment → Type 0} {Before : SerialMoment → SerialMoment → Type 0}

@@ -56,6 +56,7 @@ keeps_still n k journals end m h few kept a =
 abbrev pub run_at : SerialValue → List Deques → List Bool → ℕ → SerialValue
 run_at r links untold i = run_now (record {
   script = r.bus.script;
+  starts = r.bus.starts;
   steps = r.bus.steps;
   run = r.bus.run + i;
   left = r.bus.left - i;
@@ -103,6 +104,7 @@ module _ (setup : Setup) (r : SerialValue) (deeds : List (List Deed)) (h : Stand
     deeds_count = h.deeds_count;
     may = h.may;
     steps = h.steps;
+    links = h.links;
     ends = still_ends h.ends sames;
     starts = still_starts (most_activations setup.version) r.links links h.starts sames;
     own = h.own;
@@ -132,7 +134,7 @@ module _ (setup : Setup) (r : SerialValue) (deeds : List (List Deed)) (h : Stand
     takes untold i early stood =
         let a = length-map r.bus.journals (λ j. j ++ recessive_bits i) in
         let b = length-map r.bus.journals (λ j. j ++ recessive_bits (suc i)) in
-        takes_bit setup (at r.bus.untold i) (at untold (suc i)) deeds stood h.right refl refl (omega arith)
+        takes_bit setup (at r.bus.untold i) (at untold (suc i)) deeds stood h.right refl refl refl (omega arith)
         (omega (arith, early, most)) (omega (arith, a, b)) refl (omega arith) refl
         (λ m l acc few kept. keeps_still i (suc i) r.bus.journals (slice_index_or links m l) m acc (inside i m few)
         kept) (each_refl AreAlike alike_refl links) (stretch.bits i early)

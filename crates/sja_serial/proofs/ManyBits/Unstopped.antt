@@ -233,8 +233,8 @@ module _ (setup : Setup) (r : SerialValue) (deeds : List (List Deed)) (h : Stand
 
   -- and there is room for all bits that are left
   never_full : (now : BusValue) (after : List Deques) (f : BusFault) →
-      IsFullInStretch ends (r.bus.run + r.bus.left) r.bus.steps r.bus.left r.bus.journals now.journals r.links after f →
-      ⊥
+      IsFullInStretch ends r.bus.starts (r.bus.run + r.bus.left) r.bus.steps r.bus.left r.bus.journals now.journals
+      r.links after f → ⊥
   never_full now after f x =
       let o = x.out in let m = o.node in
       let small : m < length r.bus.journals = let l = o.few in let c = x.count in omega (arith, l, c) in
@@ -260,8 +260,8 @@ module _ (setup : Setup) (r : SerialValue) (deeds : List (List Deed)) (h : Stand
 
   pub never_refused : (now : BusValue) (after : List Deques) (f : BusFault) →
       IsTakenAndRefused ends (r.bus.run + r.bus.left) r.bus.steps r.bus.journals now.journals r.links after f
-      ⊎ IsFullInStretch ends (r.bus.run + r.bus.left) r.bus.steps r.bus.left r.bus.journals now.journals r.links after f
-      → ⊥
+      ⊎ IsFullInStretch ends r.bus.starts (r.bus.run + r.bus.left) r.bus.steps r.bus.left r.bus.journals now.journals
+      r.links after f → ⊥
   never_refused now after f (inl x) = no_item now after f x
   never_refused now after f (inr x) = never_full now after f x
 
@@ -282,7 +282,8 @@ module _ {bus : BusValue} {drivers : List LoggedDriver} {ports : List Registers}
   pub never_refused_there : (now : BusValue) (after : List Deques) (f : BusFault) →
       (bus.fault ≡ None →
       IsTakenAndRefused ends (bus.run + bus.left) bus.steps bus.journals now.journals slice after f
-      ⊎ IsFullInStretch ends (bus.run + bus.left) bus.steps bus.left bus.journals now.journals slice after f) → ⊥
+      ⊎ IsFullInStretch ends bus.starts (bus.run + bus.left) bus.steps bus.left bus.journals now.journals slice after f)
+      → ⊥
   never_refused_there now after f refused =
       never_refused setup (run_now bus drivers ports slice bits) run.0 there (left_there same view setup left)
       (lawful_there same view was) now after f (refused there.right)

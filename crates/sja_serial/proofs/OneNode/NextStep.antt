@@ -6,7 +6,8 @@ use Rattle.std.proofs.lemmas.List.{get_or_default}
 use Rattle.sja_link.specs.declared.entry.Entry.{Entry}
 use Rattle.sja_link.specs.Deques.{Deques, Lies, AreAlike, up_on}
 use Rattle.lemmas.proofs.Related.{each_one, each_refl}
-use Rattle.sja_link.specs.Links.{AreEnds}
+use Rattle.sja_link.specs.Links.{AreEnds, HaveLinks}
+use Rattle.sja_link.specs.Sizes.{most_activations}
 use Rattle.lemmas.specs.Related.{EachRelated}
 use Rattle.sja_regs.specs.declared.registers.Registers.{Registers}
 use Rattle.sja_script.specs.declared.step.Step.{Step}
@@ -31,7 +32,7 @@ use Rattle.sja_serial.proofs.OneNode.Standing.{Tries, node_there, same_node}
 use Rattle.sja_serial.proofs.OneNode.Tried.{IsTried, next_tried, place}
 use Rattle.sja_serial.proofs.OneNode.Taken.{gather_takes}
 use Rattle.sja_link.proofs.QueuedLinks.Ends.{ends}
-use Rattle.sja_serial.proofs.OneNode.Alike.{alike_refl, still_ends}
+use Rattle.sja_serial.proofs.OneNode.Alike.{alike_refl, links_are, still_ends, still_starts}
 use Rattle.sja_log.proofs.OneNode.Trying.{StepsHere}
 
 -- the registers that a step was tried at, and the step at what they are
@@ -78,15 +79,28 @@ module _ {setup : Setup} {bus : BusValue} {drivers : List LoggedDriver} {ports :
       own = same_node stood there was_is old_is;
     }
 
-    -- once a step was tried the ends are those of the nodes' links still
+    -- once a step was tried the links are what they were, in another state
+    given_alike : {now : LoggedDriver} {given : Deques} {answer : Option StepAnswer} →
+        StaysLawful AreAlike Lies was now old given answer → EachRelated AreAlike slice (slice_set slice i given)
+    given_alike {given = given} stays = each_one AreAlike alike_refl slice i old given
+        (let c = stood.ends.count in omega (arith, c, there))
+        (subst (λ (s : Deques). AreAlike s given) old_is stays.same)
+
+    -- the ends are those of the nodes' links still
     pub ends_given : {now : LoggedDriver} {given : Deques} {answer : Option StepAnswer} →
         StaysLawful AreAlike Lies was now old given answer →
         AreEnds (λ (s : Deques). s.node) (length bus.journals) (slice_set slice i given)
     ends_given {given = given} stays =
         subst (λ (n : ℕ). AreEnds (λ (s : Deques). s.node) n (slice_set slice i given))
-        (sym stood.count.journals) (still_ends stood.ends (each_one AreAlike alike_refl slice i old given
-        (let c = stood.ends.count in omega (arith, c, there))
-        (subst (λ (s : Deques). AreAlike s given) old_is stays.same)))
+        (sym stood.count.journals) (still_ends stood.ends (given_alike stays))
+
+    -- each with as many as the bus knows
+    pub links_given : {now : LoggedDriver} {given : Deques} {answer : Option StepAnswer} →
+        StaysLawful AreAlike Lies was now old given answer →
+        HaveLinks (λ (s : Deques). s.starts) bus.starts (slice_set slice i given)
+    links_given {given = given} stays = links_are (slice_set slice i given) stood.links
+        (still_ends stood.ends (given_alike stays)).count
+        (still_starts (most_activations setup.version) slice (slice_set slice i given) stood.starts (given_alike stays))
 
     -- the next step was tried, and then all was taken
     module _ (laws : bus.fault ≡ None → IsBusRun bus.script bus.run bus.journals)
@@ -115,7 +129,7 @@ module _ {setup : Setup} {bus : BusValue} {drivers : List LoggedDriver} {ports :
             after back bits back_is (next_tried stood there (laws stood.right) left answer t))
 
         pub is_tried : (n : BusValue) → n.fault ≡ None → n.run ≡ bus.run → n.script ≡ bus.script →
-            n.steps ≡ bus.steps → n.left ≡ bus.left → length n.journals ≡ length bus.journals →
+            n.starts ≡ bus.starts → n.steps ≡ bus.steps → n.left ≡ bus.left → length n.journals ≡ length bus.journals →
             KeepsAll Lies bus.journals n.journals (slice_set slice i given) after →
             EachJournal MayHaveItems bus.journals n.journals →
             EachUntold bus.untold n.untold bus.journals n.journals →
@@ -123,7 +137,7 @@ module _ {setup : Setup} {bus : BusValue} {drivers : List LoggedDriver} {ports :
             EachRelated AreAlike (slice_set slice i given) after →
             IsTried setup self (run_now n (slice_set drivers i now) (slice_set ports i q) back bits) node one deeds
             answer
-        is_tried n right ran script room over count kept items untold dry sames = tried n (record {
+        is_tried n right ran script starts room over count kept items untold dry sames = tried n (record {
           was_is = was_is;
           p_is = p_is;
           old_is = old_is;
@@ -132,6 +146,7 @@ module _ {setup : Setup} {bus : BusValue} {drivers : List LoggedDriver} {ports :
           right = right;
           run = ran;
           script = script;
+          starts = starts;
           room = room;
           left = over;
           journals = count;
@@ -148,7 +163,7 @@ module _ {setup : Setup} {bus : BusValue} {drivers : List LoggedDriver} {ports :
           IsTried setup self (run_now bus (slice_set drivers i now) (slice_set ports i q) back bits) node one deeds
           answer
       is_tried_quietly node_is back_is quiet =
-          is_tried node_is back_is bus stood.right refl refl refl refl refl (λ node d acc less kept. kept)
+          is_tried node_is back_is bus stood.right refl refl refl refl refl refl (λ node d acc less kept. kept)
           (λ node less. items_none (journal_at bus.journals node))
           (λ node less. as_untold (untold_at bus.untold node) (journal_at bus.journals node))
           (all_dry i stood node_at steps stays (quiet p steps.tried steps.met)) (each_refl AreAlike alike_refl

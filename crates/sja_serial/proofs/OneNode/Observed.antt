@@ -124,6 +124,7 @@ module _ {setup : Setup} {bus : BusValue} {drivers : List LoggedDriver} {ports :
         deeds_count = h.deeds_count;
         may = h.may;
         steps = h.steps;
+        links = h.links;
         ends = still_ends h.ends sames;
         starts = still_starts (most_activations setup.version) slice after h.starts sames;
         own = owners now h there was_is stays.node;

@@ -63,6 +63,7 @@ pub record Tries (r : SerialValue) (node : ℕ) (was now : LoggedDriver) (p q : 
   pub right : bus.fault ≡ None
   pub run : bus.run ≡ r.bus.run
   pub script : bus.script ≡ r.bus.script
+  pub starts : bus.starts ≡ r.bus.starts
   pub room : bus.steps ≡ r.bus.steps
   pub left : bus.left ≡ r.bus.left
   pub journals : length bus.journals ≡ length r.bus.journals
@@ -181,6 +182,7 @@ module _ {setup : Setup} {r : SerialValue} {deeds : List (List Deed)} {node : �
     may = h.may;
     steps = t.room ∙ h.steps;
     deeds_count = length-set deeds node (deeds_at deeds node ++ more) ∙ h.deeds_count;
+    links = t.starts ∙ h.links;
     ends = still_ends h.ends sames;
     starts = still_starts (most_activations setup.version) r.links after h.starts sames;
     own = owners now h there t.was_is t.stays.node;

@@ -1,11 +1,10 @@
 -- A run after some turns of its plan: whatever it goes on to, the turns that are left follow these.
 use Rattle.std.proofs.Common.{◌≡◌, ℕ, zero, suc, ◌+◌, ◌<◌, true, false, Bool, List, [], ◌∷◌, ◌++◌, length, map}
-use Rattle.std.proofs.Common.{replicate, take, drop, refl, sym, ap, ◌∙◌, subst, append_assoc, append-nil, arith, inl}
-use Rattle.std.proofs.Common.{inr}
+use Rattle.std.proofs.Common.{replicate, take, drop, refl, sym, ap, ◌∙◌, subst, append_assoc, append-nil, arith}
 use Rattle.std.specs.Prelude.{slice_index_or}
-use Rattle.std.proofs.lemmas.Bool.{cases_eq}
-use Rattle.std.proofs.lemmas.List.{get_or-set_same, get_or-set_other, length-map, take_more}
+use Rattle.std.proofs.lemmas.List.{take_more}
 use Rattle.sja_link.specs.declared.entry.Entry.{Entry}
+use Rattle.sja_link.specs.Sizes.{most_activations}
 use Rattle.sja_wire.specs.Buses.{BusValue, new_bus}
 use Rattle.sja_wire.specs.Wire.{journal_at}
 use Rattle.sja_wire.proofs.Wires.{no_journal}
@@ -57,7 +56,8 @@ no_lengths zero = refl
 no_lengths (suc n) = ap (λ l. 0 ∷ l) (no_lengths n)
 
 pub come_first : (plan : PlanValue) (r : SerialValue) → StandsIn plan r (replicate (length plan.nodes) []) →
-    r.bus ≡ new_bus plan.strikes plan.bits (length plan.nodes) (map (most_deeds plan.version) (step_counts plan)) →
+    r.bus ≡ new_bus plan.strikes plan.bits (length plan.nodes) (most_activations plan.version)
+    (map (most_deeds plan.version) (step_counts plan)) →
     HasCome plan [] [] r
 come_first plan r h new = record {
   accesses = replicate (length plan.nodes) [];

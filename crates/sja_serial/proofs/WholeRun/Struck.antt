@@ -25,6 +25,7 @@ stands_with setup strikes r deeds h = record {
     ports = h.count.ports;
   };
   deeds_count = h.deeds_count;
+  links = h.links;
   ends = h.ends;
   starts = h.starts;
   own = h.own;

@@ -10,6 +10,7 @@ use Rattle.sja_script.specs.declared.step.Step.{Step}
 use Rattle.sja_script.specs.declared.strike.Strike.{Strike}
 use Rattle.sja_serial.specs.Ending.{progress}
 use Rattle.sja_driver.specs.Accesses.{most_deeds}
+use Rattle.sja_link.specs.Sizes.{most_activations}
 use Rattle.sja_serial.specs.Serial.{Setup, SerialValue, StandsBy, setup_with}
 use Rattle.sja_wire.specs.Buses.{BusValue, new_bus}
 use Rattle.sja_session.specs.declared.session_room.SessionRoom.{SessionRoom}
@@ -55,15 +56,17 @@ module _ (room : SessionRoom) (plan : PlanValue) {version bits : ℕ} {script : 
   stands_made {run} h = subst (λ (n : ℕ). StandsBy (setup_for plan room.steps) run (replicate n [])) many
       (subst (λ (s : Setup). StandsBy s run (replicate (length sizes) [])) made h)
 
-  pub bus_made : (run : SerialValue) → run.bus ≡ new_bus script bits (length sizes) (map (most_deeds version) sizes) →
-      run.bus ≡ new_bus plan.strikes plan.bits (length plan.nodes)
+  pub bus_made : (run : SerialValue) →
+      run.bus ≡ new_bus script bits (length sizes) (most_activations version) (map (most_deeds version) sizes) →
+      run.bus ≡ new_bus plan.strikes plan.bits (length plan.nodes) (most_activations (run_version plan))
       (replicate (length plan.nodes) (most_deeds (run_version plan) room.steps))
-  bus_made run is = is ∙ (λ i. new_bus (script_is i) (bits_is i) (many i) (deeds_are i))
+  bus_made run is = is
+      ∙ (λ i. new_bus (script_is i) (bits_is i) (many i) (most_activations (version_is i)) (deeds_are i))
 
 module _ (room : SessionRoom) {plan : PlanValue} {run : SerialValue} {steps : List (List Step)} {turns : List Turn}
     (bare : IsBare plan) (none : steps ≡ replicate (length plan.nodes) []) (idle : turns ≡ [])
     (stands : StandsBy (setup_for plan room.steps) run (replicate (length plan.nodes) []))
-    (bus : run.bus ≡ new_bus plan.strikes plan.bits (length plan.nodes)
+    (bus : run.bus ≡ new_bus plan.strikes plan.bits (length plan.nodes) (most_activations (run_version plan))
     (replicate (length plan.nodes) (most_deeds (run_version plan) room.steps)))
   where
     -- it wrote a plan of no step and no turn

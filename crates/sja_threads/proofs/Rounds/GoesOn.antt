@@ -31,8 +31,9 @@ stands_for plan t w = record { ends = w.ends; kept = w.kept }
 -- with its links lent for a call
 module _ (was now : BusThread) (lent after : List NodeBus) (these : lent ≡ was.links.items)
     (those : now.links.items ≡ after) (script : now.bus.script ≡ was.bus.script)
-    (room : now.bus.steps ≡ was.bus.steps) (nodes : length now.bus.journals ≡ length was.bus.journals) (lent_sames :
-    EachRelated SameNodeBus lent after) where
+    (starts : now.bus.starts ≡ was.bus.starts) (room : now.bus.steps ≡ was.bus.steps)
+    (nodes : length now.bus.journals ≡ length was.bus.journals)
+    (lent_sames : EachRelated SameNodeBus lent after) where
   sames : EachRelated SameNodeBus was.links.items now.links.items
   sames =
       subst (λ (l : List NodeBus). EachRelated SameNodeBus l now.links.items) these
@@ -62,6 +63,7 @@ module _ (was now : BusThread) (lent after : List NodeBus) (these : lent ≡ was
         all_bits = all;
         journals = nodes ∙ w.journals;
         ends = ends_kept (length plan.nodes) was.links.items now.links.items sames w.ends;
+        links = starts ∙ w.links;
         kept = λ node b h less. kept node b h (few node less) (w.kept node b h less);
         none = none;
         first = w.first;
@@ -118,17 +120,20 @@ module _ (was now : BusThread) (lent after : List NodeBus) (these : lent ≡ was
 
 -- what was taken, by what the bus answers
 pub gathered : (was now : BusThread) (lent after : List NodeBus) → lent ≡ was.links.items →
-    now.links.items ≡ after → now.bus.script ≡ was.bus.script → now.bus.steps ≡ was.bus.steps →
+    now.links.items ≡ after → now.bus.script ≡ was.bus.script → now.bus.starts ≡ was.bus.starts →
+    now.bus.steps ≡ was.bus.steps →
     length now.bus.journals ≡ length was.bus.journals → EachRelated SameNodeBus lent after →
     (now.bus.run ≡ was.bus.run) × (now.bus.left ≡ was.bus.left) → now.run ≡ was.run → now.spent ≡ was.spent →
     {A : Type 0} (r : Result A BusFault) →
     OnOk r (KeepsAll NodeBusLists was.bus.journals now.bus.journals lent after) →
     OnOk r (EachJournal MayHaveItems was.bus.journals now.bus.journals) → OnOk r (now.bus.fault ≡ None) →
     OnOk r ((plan : PlanValue) → IsUnderWay plan was → GoesOn plan was now)
-gathered was now lent after these those script room nodes sames bits same_run same_spent (Ok a) kept items right = λ
-    plan w.
-    after_gather was now lent after these those script room nodes sames plan w right kept bits items same_run same_spent
-gathered was now lent after these those script room nodes sames bits same_run same_spent (Err f) kept items right = tt
+gathered was now lent after these those script starts room nodes sames bits same_run same_spent (Ok a) kept items
+    right = λ plan w.
+    after_gather was now lent after these those script starts room nodes sames plan w right kept bits items same_run
+    same_spent
+gathered was now lent after these those script starts room nodes sames bits same_run same_spent (Err f) kept items
+    right = tt
 
 -- ---- without a bit
 
@@ -163,6 +168,7 @@ spent_now plan t w many laws dry wanted =
         all_bits = w.all_bits;
         journals = w.journals;
         ends = w.ends;
+        links = w.links;
         kept = w.kept;
         none = w.none;
         first = w.first;

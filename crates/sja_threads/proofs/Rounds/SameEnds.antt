@@ -1,15 +1,15 @@
 -- The bus's ends of the links of all nodes, from one call to the next.
-use Rattle.std.proofs.Common.{◌≡◌, ℕ, List, length, refl, ◌∙◌, arith}
+use Rattle.std.proofs.Common.{◌≡◌, ℕ, List, refl, sym, ◌∙◌, arith}
 use Rattle.std.specs.Prelude.{slice_index_or}
 use Rattle.std.proofs.lemmas.List.Elements.{AllZip-get_or}
 use Rattle.std.proofs.lemmas.Slice.Zip.{AllZip-long}
 use Rattle.lemmas.specs.Related.{EachRelated}
 use Rattle.lemmas.proofs.Related.{each_at, each_refl, each_trans}
-use Rattle.sja_link.specs.Links.{AreEnds}
+use Rattle.sja_link.specs.Links.{AreEnds, HaveLinks}
 use Rattle.sja_rings.specs.declared.node_bus.NodeBus.{NodeBus}
 use Rattle.sja_rings.specs.Ends.{SameBus, link_of_bus}
 use Rattle.sja_rings.specs.Inside.Carrying.{bus_refl, bus_trans}
-use Rattle.sja_rings.specs.NodeRings.{node_of_bus, rings_of_bus, SameNodeBus}
+use Rattle.sja_rings.specs.NodeRings.{links_of_bus, node_of_bus, rings_of_bus, SameNodeBus}
 use Rattle.sja_threads.specs.Gathering.{IsBusEnd, AreBusEnds}
 
 -- each is the same as itself, and that carries over
@@ -53,3 +53,9 @@ are_ends nodes journals links same e = record {
   count = let c = e.count in omega (arith, c, same);
   own = λ node b less. (e.each node b (omega (arith, less, same))).own;
 }
+
+-- and each has as many links as the bus knows of
+pub have_links : (nodes starts : ℕ) (links : List NodeBus) → starts ≡ 64 → AreBusEnds nodes links →
+    HaveLinks links_of_bus starts links
+have_links nodes starts links is e k b less =
+    (e.each k b (let c = e.count in omega (arith, c, less))).count ∙ sym is

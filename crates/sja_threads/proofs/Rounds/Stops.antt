@@ -79,9 +79,10 @@ by_any_orders before now links after f orders_are (broken_off n) = broken_off (r
     applied = n.opens.applied;
   };
   kept = n.kept;
-  within = n.within;
   end = n.end;
   is_end = n.is_end;
+  within = n.within;
+  on_link = n.on_link;
   broken = n.broken;
 })
 
@@ -101,6 +102,7 @@ module _ (plan : PlanValue) (t next : BusThread) (now : BusValue) (links after :
       now = now;
       links = links;
       script = w.script;
+      starts = w.links;
       steps = refl;
       bits = w.all_bits;
       nodes = w.journals;

@@ -21,7 +21,7 @@ use Rattle.sja_threads.proofs.Rounds.SameEnds.{sames_refl}
 use Rattle.sja_threads.proofs.Start.NewEnds.{kept_new}
 
 pub begins : {G : Type 0} (plan : PlanValue) (t : BusThread) (starts : List (ThreadStart G)) →
-    (counts : List ℕ) → t.bus ≡ new_bus plan.strikes plan.bits (length plan.nodes) counts →
+    (counts : List ℕ) → t.bus ≡ new_bus plan.strikes plan.bits (length plan.nodes) 64 counts →
     length t.links.items ≡ length plan.nodes → t.run ≡ 0 → t.spent ≡ false → length starts ≡ length plan.nodes →
     AreMade plan (length plan.nodes) starts t.links.items → IsUnderWay plan t
 begins {G} plan t starts counts is count run spent many made = record {
@@ -30,6 +30,7 @@ begins {G} plan t starts counts is count run spent many made = record {
   all_bits = let run = none_run in let left = ap (λ (b : BusValue). b.left) is in omega (arith, run, left);
   journals = ap (λ (b : BusValue). length b.journals) is ∙ length-replicate (length plan.nodes) [];
   ends = record { count = count; each = λ node b few. (at node b few).is_bus };
+  links = ap (λ (b : BusValue). b.starts) is;
   kept = λ node b h few.
       subst (λ (j : List Entry). Kept NodeBusLists j (slice_index_or t.links.items node b) h) (sym (empty node))
       (kept_new (slice_index_or t.links.items node b) h (at node b few).bus_lists);

@@ -44,7 +44,7 @@ AreListed {G} count starts lists = (node : ℕ) (s : ThreadStart G) (l : PortLis
 
 -- all that a run of this plan begins with beside the ports
 pub record AreRunParts {G : Type 0} (plan : PlanValue) (r : RunParts G) : Type 0 where
-  pub bus : r.bus.bus ≡ new_bus plan.strikes plan.bits (length plan.nodes) (deed_counts plan)
+  pub bus : r.bus.bus ≡ new_bus plan.strikes plan.bits (length plan.nodes) 64 (deed_counts plan)
   pub links : length r.bus.links.items ≡ length plan.nodes
   pub run : r.bus.run ≡ 0
   pub spent : r.bus.spent ≡ false

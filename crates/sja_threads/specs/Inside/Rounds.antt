@@ -38,6 +38,7 @@ pub record IsUnderWay (plan : PlanValue) (t : BusThread) : Type 0 where
   pub all_bits : t.bus.run + t.bus.left ≡ plan.bits
   pub journals : length t.bus.journals ≡ length plan.nodes
   pub ends : AreBusEnds (length plan.nodes) t.links.items
+  pub links : t.bus.starts ≡ 64
   pub kept : (node : ℕ) (b : NodeBus) (h : ℕ → Account) → node < length plan.nodes →
       Kept NodeBusLists (journal_at t.bus.journals node) (slice_index_or t.links.items node b) h
   pub none : (node : ℕ) → node < length plan.nodes → TakesNoneBefore (journal_at t.bus.journals node)

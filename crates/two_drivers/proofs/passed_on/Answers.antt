@@ -6,26 +6,30 @@ use Rattle.two_drivers.proofs.Links.{AreOfTwo, when_new, when_one, when_same, ow
 use Rattle.two_drivers.proofs.passed_on.Goals.{After-index_mut, After-send, After-as_mut_slice}
 use Rattle.two_drivers.proofs.passed_on.Goals as goal
 
--- the bus has two nodes, and the board two ports
+-- the bus has two nodes and links for one start of each, and the board two ports
 two_nodes : (c : After-index_mut) → length c.in_ok-bus.bus.journals ≡ 2
 two_nodes c = search rules
+
+one_start : (c : After-index_mut) → c.in_ok-bus.bus.starts ≡ 1
+one_start c = search rules
 
 two_ports : (c : After-index_mut) → length c.in_ok-board.board.ports.items ≡ 2
 two_ports c = search rules
 
 -- the links are those of two nodes after the sender's calls, and as the bus gets them
 sent : (c : After-send) → AreOfTwo (slice_set c.in_ok-links.links.items 0 c.send.new.links)
-sent c = when_one _ _ _ _ (search rules) c.index_mut.ensures.value c.send.ensures (when_new _ 1 (search rules))
+sent c = when_one _ _ _ _ (search rules) c.index_mut.ensures.value
+    (c.send.ensures.node, c.send.ensures.starts) (when_new _ (search rules))
 
 given : (c : After-as_mut_slice) → AreOfTwo (slice_set c.in_ok-links.links.items 0 c.send.new.links) →
     AreOfTwo c.as_mut_slice.result.now
 given c sent = rw c.as_mut_slice.ensures.value
-    (when_one _ _ _ _ (search rules) c.index_mut-3.ensures.value c.start.ensures.same.0 sent)
+    (when_one _ _ _ _ (search rules) c.index_mut-3.ensures.value c.start.ensures.same sent)
 
 pub send-requires : goal.send-requires
 send-requires c =
     let links = c.in_ok-links.links.items in
-    own_node links 0 _ (when_new links 1 (search rules)) (omega arith) c.index_mut.ensures.value
+    own_node links 0 _ (when_new links (search rules)) (omega arith) c.index_mut.ensures.value
 
 pub start-requires : goal.start-requires
 start-requires c = λ left.
@@ -36,7 +40,12 @@ start-requires c = λ left.
 pub bits-requires-clause-ends : goal.bits-requires-clause-ends
 bits-requires-clause-ends c =
     let at = goal.at.bits-requires-clause-ends c in
-    let nodes = two_nodes at.After-index_mut in rw nodes (given at.After-as_mut_slice (sent at.After-send))
+    let nodes = two_nodes at.After-index_mut in rw nodes (given at.After-as_mut_slice (sent at.After-send)).ends
+
+pub bits-requires-clause-links : goal.bits-requires-clause-links
+bits-requires-clause-links c =
+    let at = goal.at.bits-requires-clause-links c in
+    let starts = one_start at.After-index_mut in rw starts (given at.After-as_mut_slice (sent at.After-send)).many
 
 pub bits-requires-clause-ports : goal.bits-requires-clause-ports
 bits-requires-clause-ports c =
@@ -46,7 +55,7 @@ bits-requires-clause-ports c =
 pub index_mut-requires-5 : goal.index_mut-requires-5
 index_mut-requires-5 c =
     let at = goal.at.index_mut-requires-5 c in
-    omega (arith, c.as_mut_slice.ensures.len, (given at.After-as_mut_slice (sent at.After-send)).count)
+    omega (arith, c.as_mut_slice.ensures.len, (given at.After-as_mut_slice (sent at.After-send)).ends.count)
 
 pub release_message-requires : goal.release_message-requires
 release_message-requires c =

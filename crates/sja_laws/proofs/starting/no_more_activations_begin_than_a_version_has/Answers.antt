@@ -1,9 +1,10 @@
 use Rattle.std.proofs.Common.{arith}
 use Rattle.sja_link.specs.Sizes.{most_activations}
+use Rattle.sja_link.proofs.Growing.Activations.{has_activations}
 use Rattle.sja_regs.specs.Registers.{at_power_on}
 use Rattle.sja_wire.specs.Wire.{journal_at}
 use Rattle.sja_serial.proofs.AllNodes.Several.{first_driver, some_links}
-use Rattle.sja_laws.proofs.OneNode.Activations.{answered_few, has_activations, trace_has}
+use Rattle.sja_laws.proofs.OneNode.Activations.{answered_few, trace_has}
 use Rattle.sja_laws.proofs.starting.no_more_activations_begin_than_a_version_has.Goals as goal
 
 pub returns-clause-moment : goal.returns-clause-moment

@@ -4,6 +4,7 @@ use Rattle.std.proofs.Common.{take, refl, ap, sym, subst, arith}
 use Rattle.std.proofs.lemmas.List.{length-map, get_or-replicate}
 use Rattle.std.proofs.lemmas.Result.{IfOk-weaker}
 use Rattle.sja_driver.specs.Accesses.{Access, most_deeds}
+use Rattle.sja_link.specs.Sizes.{most_activations}
 use Rattle.sja_plan.proofs.PlanLimits.ByVersion.{bits_most}
 use Rattle.sja_plan.specs.Plan.{PlanValue, step_counts, steps_at}
 use Rattle.sja_script.specs.declared.step.Step.{Step}
@@ -69,5 +70,6 @@ pub returns-clause-bus : goal.returns-clause-bus
 returns-clause-bus c =
     let at = (goal.at.returns-clause-bus c).After-bits in
     IfOk-weaker c.new.result _ _ (λ r is. is ∙ (λ i. new_bus (c.in_ok-script.ensures i) (c.bits.ensures.value i)
-    (c.in_ok-steps.ensures.count i) (map (most_deeds (version_is at i)) (c.in_ok-steps.ensures.value i))))
+    (c.in_ok-steps.ensures.count i) (most_activations (version_is at i))
+    (map (most_deeds (version_is at i)) (c.in_ok-steps.ensures.value i))))
     c.new.ensures.bus

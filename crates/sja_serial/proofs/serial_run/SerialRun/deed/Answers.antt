@@ -7,7 +7,7 @@ use Rattle.sja_script.specs.declared.step_answer.StepAnswer.{StepAnswer}
 use Rattle.sja_wire.specs.Lawful.{IsBusRun}
 use Rattle.sja_serial.specs.Serial.{StandsAt}
 use Rattle.sja_serial.specs.Inside.Going.{run_now}
-use Rattle.sja_serial.proofs.OneNode.NextStep.{tried_at, at_port, own_links, may_step, ends_given}
+use Rattle.sja_serial.proofs.OneNode.NextStep.{tried_at, at_port, own_links, may_step, ends_given, links_given}
 use Rattle.sja_serial.proofs.OneNode.NextStep.{none_refused}
 use Rattle.sja_serial.proofs.OneNode.NextStep.{is_tried, is_tried_quietly}
 use Rattle.sja_serial.proofs.OneNode.Tried.{IsTried}
@@ -46,6 +46,10 @@ gather-requires g c =
     let at = goal.at.gather-requires g c in let h = c.requires.stands in
     record {
       ends = ends_given c.as_mut_slice-links.ensures.value c.self.view_is h (there at.After-from-index h)
+          c.index_mut-driver.ensures.value c.index_mut-port.ensures.value
+          (own_links c.as_mut_slice-links.ensures.value c.self.view_is h (there at.After-from-index h)
+          c.index-links-index.result) c.step-answer.ensures.stays;
+      links = links_given c.as_mut_slice-links.ensures.value c.self.view_is h (there at.After-from-index h)
           c.index_mut-driver.ensures.value c.index_mut-port.ensures.value
           (own_links c.as_mut_slice-links.ensures.value c.self.view_is h (there at.After-from-index h)
           c.index-links-index.result) c.step-answer.ensures.stays;
@@ -95,7 +99,7 @@ module _ {g : Over} {deeds : List (List Deed)} where
         length-set c.as_mut_slice-links.result.now c.from-index.result c.step-answer.new.end,
         c.as_mut_slice-links.ensures.len,
       ))) c.gather.new.self
-      ok.right r.bits.0 r.script r.steps r.bits.1 r.nodes ok.kept ok.items ok.untold ok.dry r.sames
+      ok.right r.bits.0 r.script r.starts r.steps r.bits.1 r.nodes ok.kept ok.items ok.untold ok.dry r.sames
 
   -- where it gives nothing, nothing was taken
   did_quietly : (c : Then-gave_nothing g) (same : tried_at c.step-answer.ensures.steps ≡ c.index_mut-port.result.now)

@@ -2,6 +2,7 @@ use Rattle.std.proofs.Common.{rules, ◌≡◌, ◌≤◌, ◌^◌, ℕ, List, A
 use Rattle.std.proofs.Common.{arith}
 use Rattle.std.proofs.lemmas.List.{length-map}
 use Rattle.sja_link.specs.NewLinks.{AreNewLinks}
+use Rattle.sja_link.specs.Sizes.{most_activations}
 use Rattle.sja_regs.specs.Registers.{at_power_on}
 use Rattle.sja_log.specs.Inside.NewDrivers.{AreNew}
 use Rattle.sja_wire.specs.Buses.{new_bus}
@@ -21,7 +22,7 @@ new-requires-2-clause-steps c =
 
 pub serial_links-requires : goal.serial_links-requires
 serial_links-requires c =
-    let most = activations_most c.args.version in let is = c.most_activations.ensures in omega (arith, most, is)
+    let most = activations_most c.args.version in let is = c.most_activations-starts.ensures in omega (arith, most, is)
 
 pub returns-clause-stands : goal.returns-clause-stands
 returns-clause-stands c = let steps = c.as_slice.ensures.value in
@@ -39,9 +40,9 @@ returns-clause-stands c = let steps = c.as_slice.ensures.value in
       plans = c.requires.version;
     })
     refl refl (c.in_ok-bus.ensures
-    ∙ (λ i. new_bus c.args.script c.args.bits (length (deeds i)) (deeds i))
-    ∙ ap (λ n. new_bus c.args.script c.args.bits n (map (most_deeds version) asked)) (length-map asked
-    (most_deeds version)))
+    ∙ (λ i. new_bus c.args.script c.args.bits (length (deeds i)) (c.most_activations-starts.ensures i) (deeds i))
+    ∙ ap (λ n. new_bus c.args.script c.args.bits n (most_activations version) (map (most_deeds version) asked))
+    (length-map asked (most_deeds version)))
     (subst (λ (l : List ℕ). length drivers ≡ length l) c.as_slice-2.ensures.value c.in_ok-drivers.ensures.count)
     (subst (λ (l : List ℕ). AreNew version l (map (most_deeds version) asked) (length l) drivers)
     c.as_slice-2.ensures.value
@@ -49,5 +50,6 @@ returns-clause-stands c = let steps = c.as_slice.ensures.value in
     (c.as_slice-3.ensures.value ∙ deeds) c.in_ok-drivers.ensures.new))
     (subst (λ (n : ℕ). c.in_ok-board.board.ports.items ≡ replicate n (at_power_on version)) nodes
     c.in_ok-board.ensures)
-    (subst (λ (m : ℕ). AreNewLinks (length asked) m c.in_ok-links.links.items) c.most_activations.ensures
-    (subst (λ (n : ℕ). AreNewLinks n c.most_activations.result c.in_ok-links.links.items) nodes c.in_ok-links.ensures))
+    (subst (λ (m : ℕ). AreNewLinks (length asked) m c.in_ok-links.links.items) c.most_activations-starts.ensures
+    (subst (λ (n : ℕ). AreNewLinks n c.most_activations-starts.result c.in_ok-links.links.items) nodes
+    c.in_ok-links.ensures))

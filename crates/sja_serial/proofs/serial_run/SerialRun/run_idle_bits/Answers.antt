@@ -20,7 +20,7 @@ returns g c = λ deeds h.
     (with_items_is s.links now.links (omega (arith, c.quiet_bits.auto.links, c.as_mut_slice.ensures.len)))
     (takes_at_once setup (run_now s.bus s.drivers.items ports c.as_mut_slice.result.now s.bits)
     (run_now now.self s.drivers.items ports now.links (s.bits + many)) deeds
-    (stands_there same view setup deeds h) ok.right q.script q.steps q.nodes refl refl q.sames ok.kept
+    (stands_there same view setup deeds h) ok.right q.script q.starts q.steps q.nodes refl refl q.sames ok.kept
     most many ok.most ok.bits.0 ok.bits.1 refl
     (λ zero. q.items (is ∙ ap (λ (x : ℕ). Ok x) zero)) (λ zero. q.untold (is ∙ ap (λ (x : ℕ). Ok x) zero))
     ok.stretch)

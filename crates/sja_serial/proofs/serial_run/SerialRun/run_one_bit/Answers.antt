@@ -17,8 +17,8 @@ returns g c = λ deeds h.
     (with_items_is s.links now.links (omega (arith, c.bit.auto.links, c.as_mut_slice.ensures.len)))
     (takes_bit g.setup (run_now s.bus s.drivers.items s.board.ports.items
     c.as_mut_slice.result.now s.bits) (run_now now.self s.drivers.items ports now.links (s.bits + 1)) deeds
-    (stands_there same view g.setup deeds h) b.right b.keeps.script b.keeps.steps b.run b.left b.keeps.nodes
-    refl refl b.keeps.others.0 b.kept b.keeps.sames
+    (stands_there same view g.setup deeds h) b.right b.keeps.script b.keeps.starts b.keeps.steps b.run b.left
+    b.keeps.nodes refl refl b.keeps.others.0 b.kept b.keeps.sames
     b.bit (cuts_of (lawful_there same view c.requires.1.1)) b.lawful)
 
 pub unreachable-requires : goal.unreachable-requires

@@ -1,17 +1,14 @@
-use Rattle.std.proofs.Common.{◌≡◌, [], replicate, subst}
+use Rattle.std.proofs.Common.{◌≡◌, subst}
 use Rattle.std.specs.Prelude.{IfOk, IfErr}
 use Rattle.std.proofs.lemmas.Result.{on_ok_weaker}
-use Rattle.sja_wire.specs.Buses.{new_bus}
-use Rattle.sja_driver.specs.Accesses.{most_deeds}
-use Rattle.sja_session.specs.Beginning.{IsSessionFault}
+use Rattle.sja_session.specs.Beginning.{IsSessionFault, fresh_bus}
 use Rattle.sja_session.specs.declared.session_room.SessionRoom.{SessionRoom}
 use Rattle.sja_session.proofs.session.Session.new.Goals as goal
 
 pub returns-clause-bus : goal.returns-clause-bus
 returns-clause-bus c =
     subst (λ (room : SessionRoom). IfOk c.with_room.result (λ s. s.run.bus
-    ≡ new_bus [] c.args.bits c.args.nodes (replicate c.args.nodes (most_deeds c.args.version room.steps))))
-    c.most.ensures c.with_room.ensures.bus
+    ≡ fresh_bus c.args.version c.args.bits c.args.nodes room.steps)) c.most.ensures c.with_room.ensures.bus
 
 pub returns-clause-room : goal.returns-clause-room
 returns-clause-room c =

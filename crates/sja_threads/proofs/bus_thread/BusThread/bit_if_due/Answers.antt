@@ -2,14 +2,14 @@ use Rattle.std.proofs.Common.{rules, ◌≡◌, List, Err, length, refl, sym, su
 use Rattle.std.specs.Vec.{with_items}
 use Rattle.std.proofs.lemmas.List.{with_items_is}
 use Rattle.lemmas.proofs.Results.{err_is}
-use Rattle.sja_link.specs.Links.{AreEnds}
+use Rattle.sja_link.specs.Links.{AreEnds, HaveLinks}
 use Rattle.sja_rings.specs.declared.node_bus.NodeBus.{NodeBus}
-use Rattle.sja_rings.specs.NodeRings.{node_of_bus}
+use Rattle.sja_rings.specs.NodeRings.{links_of_bus, node_of_bus}
 use Rattle.sja_threads.specs.Inside.Boards.{turns_in}
 use Rattle.sja_threads.specs.Inside.Rounds.{Stops}
 use Rattle.sja_threads.proofs.Rounds.Closed.{closed_bit}
 use Rattle.sja_threads.proofs.Rounds.GoesOn.{after_bit, all_rest, spent_now, stays_on, wanted_now}
-use Rattle.sja_threads.proofs.Rounds.SameEnds.{are_ends}
+use Rattle.sja_threads.proofs.Rounds.SameEnds.{are_ends, have_links}
 use Rattle.sja_threads.proofs.Rounds.Stops.{by_any_orders, stops_bit}
 use Rattle.sja_threads.proofs.Rounds.Told.{ended_bit, told_bit}
 use Rattle.sja_threads.proofs.bus_thread.BusThread.bit_if_due.Goals as goal
@@ -29,6 +29,13 @@ bit-requires-clause-ends g c =
     (are_ends (length c.args.plan.now.nodes) (length c.args.self.now.bus.journals) c.args.self.now.links.items
     w.journals w.ends)
 
+pub bit-requires-clause-links : goal.bit-requires-clause-links
+bit-requires-clause-links g c =
+    let w = c.requires.way in
+    subst (λ (l : List NodeBus). HaveLinks links_of_bus c.args.self.now.bus.starts l)
+    (sym c.as_mut_slice.ensures.value)
+    (have_links (length c.args.plan.now.nodes) c.args.self.now.bus.starts c.args.self.now.links.items w.links w.ends)
+
 pub returns-clause-on : goal.returns-clause-on
 returns-clause-on g c =
     let w = c.requires.way in
@@ -38,7 +45,7 @@ returns-clause-on g c =
     let those : (with_items links c.bit.new.links).items ≡ c.bit.new.links =
     with_items_is links c.bit.new.links (omega (arith, c.bit.auto.links, c.as_mut_slice.ensures.len)) in
     after_bit c.args.self.now _ c.as_mut_slice.result.now c.bit.new.links c.as_mut_slice.ensures.value those k.script
-    k.steps k.nodes k.sames c.args.plan.now w o.right o.kept _ _ _ (o.run, o.left)
+    k.starts k.steps k.nodes k.sames c.args.plan.now w o.right o.kept _ _ _ (o.run, o.left)
     (c.at_rest-rests.ensures.lawful w.right) c.requires.dry
     (wanted_now c.args.awaited _ c.args.self.now c.at_rest-rests.result c.requires.awaited
     (c.is_wanted.ensures.yes (search rules)) (c.at_rest-rests.ensures.busy w.right)) (search rules) o.bit refl refl

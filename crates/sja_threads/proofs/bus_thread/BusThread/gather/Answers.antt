@@ -2,9 +2,9 @@ use Rattle.std.proofs.Common.{◌≡◌, List, length, refl, sym, subst, arith}
 use Rattle.std.specs.Prelude.{OnOk}
 use Rattle.std.specs.Vec.{with_items}
 use Rattle.std.proofs.lemmas.List.{with_items_is}
-use Rattle.sja_link.specs.Links.{AreEnds}
+use Rattle.sja_link.specs.Links.{AreEnds, HaveLinks}
 use Rattle.sja_rings.specs.declared.node_bus.NodeBus.{NodeBus}
-use Rattle.sja_rings.specs.NodeRings.{node_of_bus, ShowsNothingUp}
+use Rattle.sja_rings.specs.NodeRings.{links_of_bus, node_of_bus, ShowsNothingUp}
 use Rattle.sja_wire.specs.Buses.{AllDry}
 use Rattle.sja_threads.proofs.Rounds.GoesOn.{gathered}
 use Rattle.sja_threads.proofs.Rounds.Stops.{stops_gather}
@@ -15,6 +15,8 @@ pub gather-requires : goal.gather-requires
 gather-requires c = record {
   ends = subst (λ (l : List NodeBus). AreEnds node_of_bus (length c.args.self.now.bus.journals) l)
       (sym c.as_mut_slice.ensures.value) c.requires.ends;
+  links = subst (λ (l : List NodeBus). HaveLinks links_of_bus c.args.self.now.bus.starts l)
+      (sym c.as_mut_slice.ensures.value) c.requires.links;
 }
 
 pub returns-clause-on : goal.returns-clause-on
@@ -24,7 +26,7 @@ returns-clause-on c =
     let those : (with_items links c.gather.new.links).items ≡ c.gather.new.links =
     with_items_is links c.gather.new.links (omega (arith, c.gather.auto.links, c.as_mut_slice.ensures.len)) in
     gathered c.args.self.now _ c.as_mut_slice.result.now c.gather.new.links c.as_mut_slice.ensures.value those e.script
-    e.steps e.nodes e.sames e.bits refl refl c.gather.result e.kept e.items e.right
+    e.starts e.steps e.nodes e.sames e.bits refl refl c.gather.result e.kept e.items e.right
 
 pub returns-clause-fault : goal.returns-clause-fault
 returns-clause-fault c =

@@ -1,9 +1,9 @@
-use Rattle.std.proofs.Common.{rules, ◌≡◌, Err, length, arith}
+use Rattle.std.proofs.Common.{rules, ◌≡◌, Err, length}
 use Rattle.lemmas.proofs.Results.{err_is}
 use Rattle.sja_threads.specs.Inside.Boards.{turns_in}
 use Rattle.sja_threads.specs.Inside.Rounds.{Stops}
 use Rattle.sja_threads.proofs.Rounds.GoesOn.{on_then}
-use Rattle.sja_threads.proofs.Rounds.SameEnds.{are_ends}
+use Rattle.sja_threads.proofs.Rounds.SameEnds.{are_ends, have_links}
 use Rattle.sja_threads.proofs.Rounds.Stops.{stops_then}
 use Rattle.sja_threads.proofs.Rounds.Told.{told_then}
 use Rattle.sja_threads.proofs.bus_thread.BusThread.round_beside.Goals as goal
@@ -13,6 +13,8 @@ gather-requires g c =
     let w = c.requires.way in record {
       ends = are_ends (length c.args.plan.now.nodes) (length c.args.self.now.bus.journals) c.args.self.now.links.items
           w.journals w.ends;
+      links = have_links (length c.args.plan.now.nodes) c.args.self.now.bus.starts c.args.self.now.links.items w.links
+          w.ends;
     }
 
 pub returns-in_err-gather-clause-fault : goal.returns-in_err-gather-clause-fault

@@ -1,4 +1,4 @@
-use Rattle.std.proofs.Common.{rules, ◌≡◌, ◌≤◌, ℕ, Bool, true, false, List, Ok, Err, length, refl, sym, ap, ◌∙◌, subst}
+use Rattle.std.proofs.Common.{rules, ◌≡◌, ◌≤◌, ℕ, Bool, true, false, Ok, Err, length, refl, sym, ap, ◌∙◌, subst}
 use Rattle.std.proofs.Common.{arith, inl, inr}
 use Rattle.std.proofs.lemmas.List.{length-map}
 use Rattle.lemmas.proofs.Results.{err_is}
@@ -10,7 +10,7 @@ use Rattle.sja_threads.specs.Inside.Boards.{AllEnded, AreClosed, AreTold, turns_
 use Rattle.sja_threads.specs.Inside.Rounds.{GoesOn, Stops}
 use Rattle.sja_threads.proofs.Rounds.Closed.{closed_all, closed_more, not_spent, ran_on, rests_on}
 use Rattle.sja_threads.proofs.Rounds.GoesOn.{stays_on, on_twice}
-use Rattle.sja_threads.proofs.Rounds.SameEnds.{are_ends}
+use Rattle.sja_threads.proofs.Rounds.SameEnds.{are_ends, have_links}
 use Rattle.sja_threads.proofs.Rounds.Stops.{stops_later}
 use Rattle.sja_threads.proofs.Rounds.Told.{ended_more, told_ran, told_spent}
 use Rattle.sja_threads.proofs.bus_thread.BusThread.rounds_after_drivers.Given.{Over}
@@ -109,6 +109,7 @@ gather-requires g c =
     let w = c.loop.invariant.on.way in record {
       ends = are_ends (length c.args.plan.now.nodes) (length c.loop.self.bus.journals) c.loop.self.links.items
           w.journals w.ends;
+      links = have_links (length c.args.plan.now.nodes) c.loop.self.bus.starts c.loop.self.links.items w.links w.ends;
     }
 
 pub returns-in_err-gather-clause-fault : goal.returns-in_err-gather-clause-fault
