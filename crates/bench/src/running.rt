@@ -1,7 +1,7 @@
 //! Bits of a bus in one thread.
 
 ghost use Rattle.std.specs.Prelude.{◌≡◌, ◌≤◌, length};
-ghost use Rattle.sja_link.specs.Links.{AreEnds};
+ghost use Rattle.sja_link.specs.Links.{AreEnds, HaveLinks};
 
 use sja_bus::{Bus, SerialBoard};
 use sja_link::DequeLinks;
@@ -15,9 +15,11 @@ pub fn run_bits(
     at_once: bool,
 ) -> bool
     requires ends { AreEnds (λ l. l.node) (length bus.old.journals) links.old }
+    requires links { HaveLinks (λ l. l.starts) bus.old.starts links.old }
     requires ports { length bus.old.journals ≤ length board.old.ports.items }
     ensures nodes { length bus.new.journals ≡ length bus.old.journals }
     ensures ends { AreEnds (λ l. l.node) (length bus.new.journals) links.new }
+    ensures links { HaveLinks (λ l. l.starts) bus.new.starts links.new }
     ensures ports { length board.new.ports.items ≡ length board.old.ports.items }
 {
     if !at_once {

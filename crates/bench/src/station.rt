@@ -1,7 +1,7 @@
 //! [`Station`]: a bus in one thread with a driver out of reset for each node.
 
 ghost use Rattle.std.specs.Prelude.{◌≡◌, ◌≤◌, length, IfOk};
-ghost use Rattle.sja_link.specs.Links.{AreEnds};
+ghost use Rattle.sja_link.specs.Links.{AreEnds, HaveLinks};
 
 use super::running::run_bits;
 use can_frame::{Message, OutOfMemory};
@@ -16,6 +16,9 @@ use std::alloc::Global;
 /// The command that requests a transmission (SJA1000 data sheet, 6.4.4).
 const TRANSMIT: u8 = 1 << letters::TR;
 
+/// For how many starts of its controller each node has links.
+const STARTS: u64 = 1;
+
 /// A bus in one thread with a driver out of reset for each node.
 #[derive(Drop)]
 pub struct Station {
@@ -24,6 +27,7 @@ pub struct Station {
     board: SerialBoard,
     drivers: Vec<Driver<Active>>,
     ghost ends: { AreEnds (λ e. e.node) (length bus.journals) links.items },
+    ghost many: { HaveLinks (λ e. e.starts) bus.starts links.items },
     ghost ports: { length bus.journals ≤ length board.ports.items },
 }
 
@@ -35,7 +39,9 @@ impl Station {
             return None;
         }
         let (links, board, drivers) = ends_of(alloc, nodes)?;
-        if !are_links_of(links.as_slice(), nodes) || board.ports.len() < usize::from(nodes) {
+        if !are_links_of(links.as_slice(), nodes, STARTS)
+            || board.ports.len() < usize::from(nodes)
+        {
             return None;
         }
         let Ok(bus) = plain_bus(alloc, nodes, bits) else {
@@ -85,7 +91,8 @@ impl Station {
 /// Has the driver load this message and request its transmission over these links, where they are its own and its
 /// transmit buffer is released.
 fn ask(links: &mut DequeLinks, driver: &mut Driver<Active>, port: &mut Port, message: &Message)
-    ensures { links.new.node ≡ links.old.node }
+    ensures node { links.new.node ≡ links.old.node }
+    ensures starts { links.new.starts ≡ links.old.starts }
 {
     if DriverEnd::node(links) == driver.link().node && driver.load(port, message).is_ok() {
         let _ = driver.command(links, port, TRANSMIT);
@@ -95,7 +102,8 @@ fn ask(links: &mut DequeLinks, driver: &mut Driver<Active>, port: &mut Port, mes
 /// Has the driver release the first message that it was shown, over these links, where they are its own. Whether there
 /// was one.
 fn is_released(links: &mut DequeLinks, driver: &mut Driver<Active>) -> bool
-    ensures { links.new.node ≡ links.old.node }
+    ensures node { links.new.node ≡ links.old.node }
+    ensures starts { links.new.starts ≡ links.old.starts }
 {
     DriverEnd::node(links) == driver.link().node && driver.release(links).is_ok()
 }
@@ -104,12 +112,14 @@ fn is_released(links: &mut DequeLinks, driver: &mut Driver<Active>) -> bool
 fn plain_bus(alloc: Global, nodes: u8, bits: u32) -> Result<Bus, OutOfMemory>
     requires nodes { (1 ≤ nodes) × (nodes ≤ 8) }
     requires bits { (1 ≤ bits) × (bits ≤ 2000000) }
-    ensures { IfOk result (λ b. length b.journals ≡ nodes) }
+    ensures nodes { IfOk result (λ b. length b.journals ≡ nodes) }
+    ensures starts { IfOk result (λ b. b.starts ≡ 1) }
 {
     let steps = Vec::from_elem(alloc, 1_000, usize::from(nodes))?;
     Bus::new(
         alloc,
         u64::from(bits),
+        STARTS,
         steps,
         FaultScript::of(Vec::new(alloc)),
     )
@@ -120,7 +130,7 @@ type Ends = (Vec<DequeLinks>, SerialBoard, Vec<Driver<Active>>);
 
 /// The links and the ports of so many nodes, and a driver of each, started.
 fn ends_of(alloc: Global, nodes: u8) -> Option<Ends> {
-    let mut links = serial_links(alloc, nodes, 1).ok()?;
+    let mut links = serial_links(alloc, nodes, STARTS).ok()?;
     let mut board = SerialBoard::new(alloc, nodes, 1).ok()?;
     let drivers = drivers_of(alloc, nodes, links.as_mut_slice(), &mut board)?;
     Some((links, board, drivers))

@@ -10,10 +10,13 @@ use sja_script::{FaultScript, Strike};
 use std::alloc::Global;
 use std::test::Fail;
 
+/// For how many activations each node has links.
+const STARTS: u64 = 8;
+
 /// A bus of three nodes.
 fn bus_of_three(alloc: Global) -> Result<Bus, OutOfMemory> {
     let steps = Vec::from_array(alloc, [10, 20, 30])?;
-    Bus::new(alloc, 100, steps, FaultScript::of(Vec::new(alloc)))
+    Bus::new(alloc, 100, STARTS, steps, FaultScript::of(Vec::new(alloc)))
 }
 
 /// Whether it is at rest and has three nodes, where memory isn't refused.
@@ -31,7 +34,7 @@ fn refused_memory_gives_no_bus(rt: HostRuntime) {
 
 /// Whether the links of three nodes are there, where memory isn't refused.
 fn are_links_of_three(alloc: Global) -> bool {
-    match serial_links(alloc, 3, 8) {
+    match serial_links(alloc, 3, STARTS) {
         Ok(links) => links.len() == 3,
         Err(refused) => refused == OutOfMemory,
     }
@@ -67,7 +70,7 @@ fn refused_memory_refuses_a_strike(rt: HostRuntime) {
         every: 1,
         times: 1,
     };
-    if let Ok(mut bus) = Bus::new(rt.alloc(), 100, steps, script) {
+    if let Ok(mut bus) = Bus::new(rt.alloc(), 100, STARTS, steps, script) {
         match bus.strike(strike) {
             Ok(()) => assert!(rt; bus.bits_run() == 0),
             Err(refused) => assert!(rt; refused == OutOfMemory),
@@ -78,7 +81,7 @@ fn refused_memory_refuses_a_strike(rt: HostRuntime) {
 /// How many nodes have a log at the end of a bus for so many bits, of two nodes whose drivers do so many steps.
 fn finished(alloc: Global, bits: u64, steps: [u64; 2]) -> Result<Result<usize, Endless>, Fail> {
     let steps = Vec::from_array(alloc, steps)?;
-    let bus = Bus::new(alloc, bits, steps, FaultScript::of(Vec::new(alloc)))?;
+    let bus = Bus::new(alloc, bits, STARTS, steps, FaultScript::of(Vec::new(alloc)))?;
     Ok(bus.finish().map(|logs| logs.len()))
 }
 

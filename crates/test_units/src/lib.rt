@@ -5,7 +5,8 @@
 //! | Tests of | Modules |
 //! |---|---|
 //! | `sja_regs`, `sja_link`, `sja_rings`, `sja_driver` | [`registers`], [`links`], [`rings`], [`drivers`] |
-//! | `sja_bus` where memory is refused; strikes of runs of each length | [`buses`], [`strikes`] |
+//! | `sja_bus` where memory is refused; which ends are a bus's | [`buses`], [`bus_ends`] |
+//! | strikes of runs of each length | [`strikes`] |
 //! | whole runs over links of two rings in one thread, by a turn loop of the tests' own | [`ring_runs`] |
 //! | `sja_log` where a run has no log | [`run_logs`] |
 //! | `sja_replay`, `sja_report`, `sja_wave` over logs written by hand | [`replay`], [`reports`], [`waves`] |
@@ -16,6 +17,8 @@
 //! Expected values are written by hand: from the data sheet and the standard, and reports and waves from their formats.
 #![tactic(auto)]
 
+#[cfg(test)]
+mod bus_ends;
 #[cfg(test)]
 mod buses;
 #[cfg(test)]

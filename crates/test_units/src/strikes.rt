@@ -32,7 +32,7 @@ fn struck_bits(
         script.push(*one).ok()?;
     }
     let steps = Vec::from_array(alloc, [10]).ok()?;
-    let mut bus = Bus::new(alloc, bits, steps, FaultScript::of(script)).ok()?;
+    let mut bus = Bus::new(alloc, bits, ACTIVATIONS, steps, FaultScript::of(script)).ok()?;
     let mut links = serial_links(alloc, 1, ACTIVATIONS).ok()?;
     let mut board = SerialBoard::new(alloc, 1, 1).ok()?;
     let mut struck = Vec::new(alloc);
@@ -138,7 +138,8 @@ fn strikes_past_32_bits_hit_none_before(rt: HostRuntime) {
 /// before them hits its bit still; in none of the bits between anybody is struck. Nothing where a call is refused.
 fn are_struck_on_and_on(alloc: Global, count: u64) -> Option<bool> {
     let steps = Vec::from_array(alloc, [10]).ok()?;
-    let mut bus = Bus::new(alloc, 1 << 62, steps, FaultScript::of(Vec::new(alloc))).ok()?;
+    let script = FaultScript::of(Vec::new(alloc));
+    let mut bus = Bus::new(alloc, 1 << 62, ACTIVATIONS, steps, script).ok()?;
     let mut links = serial_links(alloc, 1, ACTIVATIONS).ok()?;
     let mut board = SerialBoard::new(alloc, 1, 1).ok()?;
     let far = 3 * count + 1_000;

@@ -43,6 +43,10 @@ impl BusEnd for Returning {
         BusEnd::node(&self.links)
     }
 
+    fn links(&self) -> u64 {
+        self.links.links()
+    }
+
     fn put(&mut self, activation: u64, item: Down) -> Result<(), Down> {
         if self.is_due() {
             return Err(item);

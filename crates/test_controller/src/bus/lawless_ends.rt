@@ -59,6 +59,10 @@ impl BusEnd for LawlessEnds {
         self.node
     }
 
+    fn links(&self) -> u64 {
+        1
+    }
+
     fn put(&mut self, activation: u64, item: Down) -> Result<(), Down> {
         if activation > 1 {
             return Ok(());

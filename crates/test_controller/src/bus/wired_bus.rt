@@ -16,6 +16,8 @@ pub struct WiredBus<E> {
     pub links: Vec<E>,
     pub board: SerialBoard,
     nodes: u8,
+    /// How many links each end has.
+    starts: u64,
 }
 
 impl<E: BusEnd + Drop> WiredBus<E> {
@@ -32,10 +34,11 @@ impl<E: BusEnd + Drop> WiredBus<E> {
         if nodes == 0 || nodes > 8 || bits == 0 || bits > 2_000_000 {
             return None;
         }
+        let starts = links.first()?.links();
         let Ok(steps) = Vec::from_elem(alloc, 1_000, usize::from(nodes)) else {
             return None;
         };
-        let Ok(bus) = Bus::new(alloc, u64::from(bits), steps, script) else {
+        let Ok(bus) = Bus::new(alloc, u64::from(bits), starts, steps, script) else {
             return None;
         };
         let Ok(board) = SerialBoard::new(alloc, nodes, version) else {
@@ -46,12 +49,13 @@ impl<E: BusEnd + Drop> WiredBus<E> {
             links,
             board,
             nodes,
+            starts,
         })
     }
 
     /// Takes what the drivers gave.
     pub fn gather(&mut self) -> Option<Result<(), BusFault>> {
-        if !are_links_of(self.links.as_slice(), self.nodes) {
+        if !are_links_of(self.links.as_slice(), self.nodes, self.starts) {
             return None;
         }
         Some(self.bus.gather(self.links.as_mut_slice()))
@@ -59,7 +63,7 @@ impl<E: BusEnd + Drop> WiredBus<E> {
 
     /// One bit.
     pub fn bit(&mut self) -> Option<Result<(), BusFault>> {
-        if !are_links_of(self.links.as_slice(), self.nodes)
+        if !are_links_of(self.links.as_slice(), self.nodes, self.starts)
             || self.board.ports.len() < usize::from(self.nodes)
         {
             return None;
@@ -79,7 +83,7 @@ impl<E: BusEnd + Drop> WiredBus<E> {
 
     /// So many bits, or as many as are left, one after another, with `to_rest` as long as some node works: how many.
     pub fn several(&mut self, count: u32, to_rest: bool) -> Option<Result<u32, BusFault>> {
-        if !are_links_of(self.links.as_slice(), self.nodes)
+        if !are_links_of(self.links.as_slice(), self.nodes, self.starts)
             || self.board.ports.len() < usize::from(self.nodes)
         {
             return None;
@@ -90,7 +94,7 @@ impl<E: BusEnd + Drop> WiredBus<E> {
 
     /// Up to so many bits at once, as far as every node is at rest: how many.
     pub fn quiet_bits(&mut self, count: u32) -> Option<Result<u32, BusFault>> {
-        if !are_links_of(self.links.as_slice(), self.nodes)
+        if !are_links_of(self.links.as_slice(), self.nodes, self.starts)
             || self.board.ports.len() < usize::from(self.nodes)
         {
             return None;
@@ -104,7 +108,7 @@ impl<E: BusEnd + Drop> WiredBus<E> {
     /// Up to so many bits, up to the first in which a port is told its turn, with `to_rest` as long as some node works:
     /// how many.
     pub fn until_told(&mut self, count: u32, to_rest: bool) -> Option<Result<u32, BusFault>> {
-        if !are_links_of(self.links.as_slice(), self.nodes)
+        if !are_links_of(self.links.as_slice(), self.nodes, self.starts)
             || self.board.ports.len() < usize::from(self.nodes)
         {
             return None;
@@ -160,6 +164,7 @@ impl<E: BusEnd + Drop> WiredBus<E> {
             links: _,
             board: _,
             nodes: _,
+            starts: _,
         } = self;
         bus.finish().ok()
     }

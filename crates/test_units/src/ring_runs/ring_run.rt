@@ -4,7 +4,7 @@ use super::message_fates::MessageFates;
 use super::worker::Worker;
 use can_frame::{Message, OutOfMemory};
 use sja_bus::{Bus, BusFault, NodeLog, SerialBoard, are_links_of};
-use sja_link::{Entry, Up};
+use sja_link::{ACTIVATIONS, Entry, Up};
 use sja_plan::{Plan, Turn};
 use sja_rings::{NodeBus, node_pair};
 use sja_script::FaultScript;
@@ -94,7 +94,7 @@ impl RingRun {
 
     /// Takes what the drivers gave. Whether every node is at rest then.
     fn is_at_rest(&mut self) -> Result<bool, Fail> {
-        if !are_links_of(self.ends.as_slice(), self.nodes)
+        if !are_links_of(self.ends.as_slice(), self.nodes, ACTIVATIONS)
             || self.board.ports.len() < usize::from(self.nodes)
         {
             return Err("not the bus's links and ports")?;
@@ -107,7 +107,7 @@ impl RingRun {
 
     /// One bit.
     fn bit(&mut self) -> Result<(), Fail> {
-        if !are_links_of(self.ends.as_slice(), self.nodes)
+        if !are_links_of(self.ends.as_slice(), self.nodes, ACTIVATIONS)
             || self.board.ports.len() < usize::from(self.nodes)
         {
             return Err("not the bus's links and ports")?;
@@ -150,6 +150,7 @@ fn bus_of(alloc: Global, nodes: u8, plan: &Plan) -> Result<Bus, OutOfMemory> {
     Bus::new(
         alloc,
         u64::from(plan.bits()),
+        ACTIVATIONS,
         steps,
         FaultScript::of(strikes),
     )

@@ -1,4 +1,5 @@
-//! A session without an end, which is struck in bits far ahead, and has neither plan nor log.
+//! A session without an end, which is struck in bits far ahead, and has neither plan nor log; and the strikes of one
+//! that has one.
 
 use sja_session::{NoPlan, Session, StrikeFault};
 use std::alloc::Global;
@@ -56,6 +57,21 @@ fn a_session_without_an_end_is_struck_in_any_bit_ahead(rt: HostRuntime) -> Resul
 fn a_session_without_an_end_has_neither_plan_nor_log(rt: HostRuntime) -> Result<(), Fail> {
     let session = session_of(rt.alloc())?;
     assert!(rt; session.plan(rt.alloc()).err() == Some(NoPlan::Endless));
+    assert!(rt; session.strikes().err() == Some(NoPlan::Endless));
     assert!(rt; session.finish(rt.alloc()).err() == Some(NoPlan::Endless));
+    Ok(())
+}
+
+/// One with an end gives its strikes, in the order in which they were taken.
+#[test]
+fn a_session_with_an_end_gives_its_strikes(rt: HostRuntime) -> Result<(), Fail> {
+    let mut session = Session::new(rt.alloc(), 3, 100, 2)?;
+    assert!(rt; session.strikes()?.is_empty());
+    session.strike(1, 51)?;
+    session.strike(0, 20)?;
+    let strikes = session.strikes()?;
+    assert!(rt; strikes.len() == 2);
+    assert!(rt; (strikes[0].node, strikes[0].bit) == (1, 51));
+    assert!(rt; (strikes[1].node, strikes[1].bit) == (0, 20));
     Ok(())
 }
