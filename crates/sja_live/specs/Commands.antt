@@ -1,6 +1,7 @@
 -- What a line of `sja live` asks for (this project's own rule). Words stand with one space between two; numbers,
--- addresses, values, messages and steps are spelled as in a plan of the session's version, but for the bit of a strike.
-use Rattle.std.specs.Prelude.{◌≡◌, ◌≤◌, ℕ, Option, Some, None, true, List, [], ◌∷◌, ◌++◌, codes, length}
+-- addresses, values, messages and steps are spelled as in a plan of the session's version, but for the bit of a strike
+-- of a session without an end.
+use Rattle.std.specs.Prelude.{◌≡◌, ◌≤◌, ℕ, Bool, Option, Some, None, true, List, [], ◌∷◌, ◌++◌, codes, length}
 use Rattle.std.specs.Prelude.{nat_lt, if◌then◌else◌}
 use Rattle.std.specs.Str.{all_ascii_digits}
 use Rattle.std.specs.Str.Parse.{digits_value}
@@ -8,10 +9,13 @@ use Rattle.sja_live.specs.declared.live_command.LiveCommand.{LiveCommand}
 use Rattle.sja_live.specs.declared.live_command.LiveCommand.TheVariants.{Step, Read, Write, Run, Rest, Line, Strike}
 use Rattle.sja_live.specs.declared.live_command.LiveCommand.TheVariants.{Answer, Bits, Plan, End, To, PlaceOf}
 use Rattle.sja_plan.specs.Accesses.{SpellsAddress, SpellsValue}
+use Rattle.sja_plan.specs.Limits.{most_bits}
+use Rattle.sja_plan.specs.Plan.{PlanValue}
 use Rattle.sja_plan.specs.PlaceNames.{place_of_word, place_of_words}
 use Rattle.sja_plan.specs.declared.place.Place.{Place}
 use Rattle.sja_plan.specs.StepTexts.{AreStepWords}
 use Rattle.sja_plan.specs.Words.{Text, words, greatest, SpellsWithin, SpellsNode}
+use Rattle.sja_session.specs.Sessions.{SessionValue}
 
 -- ---- the forms of a line
 
@@ -56,39 +60,44 @@ pub record IsToLine (ws : List Text) (k : Text) (place : Option Place) (n : Text
 
 -- ---- what a line asks for
 
--- how many digits spell a bit at most: in version 3 any bit of a session without an end
-abbrev pub most_digits : ℕ → ℕ
-most_digits version = if nat_lt version 3 then 7 else 19
+-- how many digits spell a bit at most, with an end or without one: as many as any number, or any bit there is
+abbrev pub most_digits : Bool → ℕ
+most_digits endless = if endless then 19 else 7
 
 -- the word spells this bit with one to so many decimal digits; zeros may lead
-pub record SpellsBit (version : ℕ) (word : Text) (bit : ℕ) : Type 0 where
+pub record SpellsBit (endless : Bool) (word : Text) (bit : ℕ) : Type 0 where
   pub some : 1 ≤ length word
-  pub few : length word ≤ most_digits version
+  pub few : length word ≤ most_digits endless
   pub digits : all_ascii_digits word ≡ true
   pub value : bit ≡ digits_value 10 word
 
--- by this version of the rules, of a session of so many nodes, these words ask for this
-abbrev pub AreCommandWords : ℕ → ℕ → List Text → LiveCommand → Type 0
-AreCommandWords version nodes ws (Step node step) =
+-- by this version of the rules, of a session without an end or with one, of so many nodes, these words ask for this
+abbrev pub AreCommandWords : ℕ → Bool → ℕ → List Text → LiveCommand → Type 0
+AreCommandWords version endless nodes ws (Step node step) =
     (k : Text) × (rest : List Text) × IsStepLine ws k rest × SpellsNode nodes k node × AreStepWords version rest step
-AreCommandWords version nodes ws (Read node address) =
+AreCommandWords version endless nodes ws (Read node address) =
     (k a : Text) × IsReadLine ws k a × SpellsNode nodes k node × SpellsAddress version a address
-AreCommandWords version nodes ws (Write node address value) =
+AreCommandWords version endless nodes ws (Write node address value) =
     (k a v : Text) × IsWriteLine ws k a v × SpellsNode nodes k node × SpellsAddress version a address
     × SpellsValue version address v value
-AreCommandWords version nodes ws (Run count) = (n : Text) × IsRunLine ws n × SpellsWithin 0 greatest n count
-AreCommandWords version nodes ws Rest = ws ≡ codes "rest" ∷ []
-AreCommandWords version nodes ws Line = ws ≡ codes "line" ∷ []
-AreCommandWords version nodes ws (Strike node bit) =
-    (k b : Text) × IsStrikeLine ws k b × SpellsNode nodes k node × SpellsBit version b bit
-AreCommandWords version nodes ws (Answer node) = (k : Text) × IsAnswerLine ws k × SpellsNode nodes k node
-AreCommandWords version nodes ws (To node place limit) =
+AreCommandWords version endless nodes ws (Run count) = (n : Text) × IsRunLine ws n × SpellsWithin 0 greatest n count
+AreCommandWords version endless nodes ws Rest = ws ≡ codes "rest" ∷ []
+AreCommandWords version endless nodes ws Line = ws ≡ codes "line" ∷ []
+AreCommandWords version endless nodes ws (Strike node bit) =
+    (k b : Text) × IsStrikeLine ws k b × SpellsNode nodes k node × SpellsBit endless b bit
+AreCommandWords version endless nodes ws (Answer node) = (k : Text) × IsAnswerLine ws k × SpellsNode nodes k node
+AreCommandWords version endless nodes ws (To node place limit) =
     (k n : Text) × IsToLine ws k (Some place) n × SpellsNode nodes k node × SpellsWithin 0 greatest n limit
-AreCommandWords version nodes ws (PlaceOf node) = (k : Text) × IsPlaceLine ws k × SpellsNode nodes k node
-AreCommandWords version nodes ws Bits = ws ≡ codes "bits" ∷ []
-AreCommandWords version nodes ws Plan = ws ≡ codes "plan" ∷ []
-AreCommandWords version nodes ws End = ws ≡ codes "end" ∷ []
+AreCommandWords version endless nodes ws (PlaceOf node) = (k : Text) × IsPlaceLine ws k × SpellsNode nodes k node
+AreCommandWords version endless nodes ws Bits = ws ≡ codes "bits" ∷ []
+AreCommandWords version endless nodes ws Plan = ws ≡ codes "plan" ∷ []
+AreCommandWords version endless nodes ws End = ws ≡ codes "end" ∷ []
 
--- the line asks for this
-abbrev pub AsksFor : ℕ → ℕ → Text → LiveCommand → Type 0
-AsksFor version nodes line command = AreCommandWords version nodes (words line) command
+-- a session that goes by such a plan is without an end
+abbrev pub lacks_end : PlanValue → Bool
+lacks_end p = nat_lt (most_bits p.version) p.bits
+
+-- the line asks for this, of this session
+abbrev pub AsksFor : SessionValue → Text → LiveCommand → Type 0
+AsksFor s line command =
+    AreCommandWords s.plan.version (lacks_end s.plan) (length s.plan.nodes) (words line) command

@@ -1,15 +1,16 @@
 -- Why a line of `sja live` asks for nothing (this project's own rule): the first mistake in it.
-use Rattle.std.specs.Prelude.{◌≡◌, ◌⊎◌, ℕ, Option, Some, None, List, [], ◌∷◌, codes}
+use Rattle.std.specs.Prelude.{◌≡◌, ◌⊎◌, ℕ, Bool, Option, Some, None, List, [], ◌∷◌, codes, length}
 use Rattle.sja_live.specs.Commands.{IsStepLine, IsReadLine, IsWriteLine, IsRunLine, IsStrikeLine, IsAnswerLine}
-use Rattle.sja_live.specs.Commands.{IsPlaceLine, IsToLine, SpellsBit}
+use Rattle.sja_live.specs.Commands.{IsPlaceLine, IsToLine, SpellsBit, lacks_end}
 use Rattle.sja_live.specs.declared.line_fault.LineFault.{LineFault}
 use Rattle.sja_live.specs.declared.line_fault.LineFault.TheVariants.{Text as NoText, Command, Node, Number}
 use Rattle.sja_live.specs.declared.line_fault.LineFault.TheVariants.{Address, Byte, Step, Place as PlaceWord}
 use Rattle.sja_plan.specs.Accesses.{SpellsAddress, SpellsValue}
 use Rattle.sja_plan.specs.StepTexts.{AreStepWords}
 use Rattle.sja_plan.specs.declared.place.Place.{Place}
-use Rattle.sja_plan.specs.Words.{Text, greatest, SpellsWithin, SpellsNode}
+use Rattle.sja_plan.specs.Words.{Text, words, greatest, SpellsWithin, SpellsNode}
 use Rattle.sja_script.specs.declared.step.Step.{Step as StepOf}
+use Rattle.sja_session.specs.Sessions.{SessionValue}
 
 -- ---- the words of a line
 
@@ -45,8 +46,8 @@ IsNoByte version address v = (byte : ℕ) → ¬ SpellsValue version address v b
 abbrev pub IsNoNumber : Text → Type 0
 IsNoNumber n = (number : ℕ) → ¬ SpellsWithin 0 greatest n number
 
-abbrev pub IsNoBit : ℕ → Text → Type 0
-IsNoBit version b = (bit : ℕ) → ¬ SpellsBit version b bit
+abbrev pub IsNoBit : Bool → Text → Type 0
+IsNoBit endless b = (bit : ℕ) → ¬ SpellsBit endless b bit
 
 -- words are those of no step of this version
 abbrev pub IsNoStep : ℕ → List Text → Type 0
@@ -60,20 +61,25 @@ IsSomeNode nodes k = (node : ℕ) × SpellsNode nodes k node
 
 -- the words are no command's; or they are (words are those of a text), and this is the first of the words behind its
 -- name that spells nothing
-abbrev pub AreMistaken : ℕ → ℕ → List Text → LineFault → Type 0
-AreMistaken version nodes ws NoText = ⊥
-AreMistaken version nodes ws Command = ¬ HasForm ws
-AreMistaken version nodes ws Node = (k : Text) × NamesNode ws k × IsNoNode nodes k
-AreMistaken version nodes ws Step =
+abbrev pub AreMistaken : ℕ → Bool → ℕ → List Text → LineFault → Type 0
+AreMistaken version endless nodes ws NoText = ⊥
+AreMistaken version endless nodes ws Command = ¬ HasForm ws
+AreMistaken version endless nodes ws Node = (k : Text) × NamesNode ws k × IsNoNode nodes k
+AreMistaken version endless nodes ws Step =
     (k : Text) × (rest : List Text) × IsStepLine ws k rest × IsSomeNode nodes k × IsNoStep version rest
-AreMistaken version nodes ws Address =
+AreMistaken version endless nodes ws Address =
     (k a : Text) × (IsReadLine ws k a ⊎ ((v : Text) × IsWriteLine ws k a v)) × IsSomeNode nodes k
     × IsNoAddress version a
-AreMistaken version nodes ws Byte =
+AreMistaken version endless nodes ws Byte =
     (k a v : Text) × (address : ℕ) × IsWriteLine ws k a v × IsSomeNode nodes k × SpellsAddress version a address
     × IsNoByte version address v
-AreMistaken version nodes ws PlaceWord = (k n : Text) × IsToLine ws k None n × IsSomeNode nodes k
-AreMistaken version nodes ws Number =
+AreMistaken version endless nodes ws PlaceWord = (k n : Text) × IsToLine ws k None n × IsSomeNode nodes k
+AreMistaken version endless nodes ws Number =
     ((n : Text) × IsRunLine ws n × IsNoNumber n)
-    ⊎ ((k b : Text) × IsStrikeLine ws k b × IsSomeNode nodes k × IsNoBit version b)
+    ⊎ ((k b : Text) × IsStrikeLine ws k b × IsSomeNode nodes k × IsNoBit endless b)
     ⊎ ((k n : Text) × (place : Place) × IsToLine ws k (Some place) n × IsSomeNode nodes k × IsNoNumber n)
+
+-- the line asks for nothing, of this session
+abbrev pub IsMistaken : SessionValue → Text → LineFault → Type 0
+IsMistaken s line fault =
+    AreMistaken s.plan.version (lacks_end s.plan) (length s.plan.nodes) (words line) fault

@@ -9,7 +9,7 @@ use Rattle.sja_live.specs.Beginning.{IsNewOf}
 use Rattle.sja_live.specs.Commands.{AsksFor}
 use Rattle.sja_live.specs.Ending.{IsLastText}
 use Rattle.sja_live.specs.Lines.{most_line, first_line, behind_line, HasBegun, LeadsOn, IsReadable}
-use Rattle.sja_live.specs.Mistakes.{AreMistaken}
+use Rattle.sja_live.specs.Mistakes.{IsMistaken}
 use Rattle.sja_live.specs.Opening.{Opens, IsOpeningFault}
 use Rattle.sja_live.specs.declared.line_fault.LineFault.{LineFault}
 use Rattle.sja_live.specs.declared.line_fault.LineFault.TheVariants.{Text as NoText}
@@ -23,7 +23,7 @@ use Rattle.sja_live.specs.declared.talk_fault.TalkFault.{TalkFault}
 use Rattle.sja_live.specs.declared.talk_fault.TalkFault.TheVariants.{Memory, Read, Write}
 use Rattle.sja_live.specs.declared.talk_end.TalkEnd.{TalkEnd}
 use Rattle.sja_live.specs.declared.talk_end.TalkEnd.TheVariants.{Reported, Unopened}
-use Rattle.sja_plan.specs.Words.{Text, words}
+use Rattle.sja_plan.specs.Words.{Text}
 
 -- ---- one line
 
@@ -32,10 +32,10 @@ use Rattle.sja_plan.specs.Words.{Text, words}
 pub data Replies (was now : SessionValue) (accesses : List (List Access)) (line : Text) :
     LiveAnswer → List (List Access) → Type 0 where
   done : {command : LiveCommand} {answer : LiveAnswer} {after : List (List Access)} → IsReadable line →
-      AsksFor was.plan.version (length was.plan.nodes) line command → Answers was now accesses command answer after →
+      AsksFor was line command → Answers was now accesses command answer after →
       Replies was now accesses line answer after
   mistaken : {fault : LineFault} → IsReadable line →
-      AreMistaken was.plan.version (length was.plan.nodes) (words line) fault → now ≡ was →
+      IsMistaken was line fault → now ≡ was →
       Replies was now accesses line (Mistaken fault) accesses
   no_text : length line ≤ most_line → ¬ IsUtf8 line → now ≡ was →
       Replies was now accesses line (Mistaken NoText) accesses
@@ -53,7 +53,7 @@ pub data Talks (first : SessionValue) (begun : List (List Access)) :
 
 -- the line ends the talk
 abbrev pub EndsTalk : SessionValue → Text → Type 0
-EndsTalk s line = IsReadable line × AsksFor s.plan.version (length s.plan.nodes) line End
+EndsTalk s line = IsReadable line × AsksFor s line End
 
 -- ---- the whole
 

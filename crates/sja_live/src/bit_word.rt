@@ -3,28 +3,22 @@
 ghost use Rattle.std.specs.Prelude.{◌≡◌, ◌≤◌, ℕ, IfSome, IfNone};
 ghost use Rattle.sja_live.specs.Commands.{most_digits, SpellsBit};
 
-use sja_plan::RAW_VERSION;
-
-/// The bit that a word spells with one to seven decimal digits, in version 3 with one to nineteen (this project's own
-/// rule).
-pub(crate) fn bit_of(version: usize, word: &str) -> Option<u64>
-    ensures some { IfSome result (SpellsBit version word.now) }
-    ensures none { IfNone result ((bit : ℕ) → ¬ SpellsBit version word.now bit) }
+/// The bit that a word spells with one to seven decimal digits, in a session without an end with one to nineteen (this
+/// project's own rule).
+pub(crate) fn bit_of(endless: bool, word: &str) -> Option<u64>
+    ensures some { IfSome result (SpellsBit endless word.now) }
+    ensures none { IfNone result ((bit : ℕ) → ¬ SpellsBit endless word.now bit) }
 {
-    if word.len() > most_digits(version) || word.starts_with('+') {
+    if word.len() > most_digits(endless) || word.starts_with('+') {
         return None;
     }
     word.parse::<u64>().ok()
 }
 
 /// How many digits spell a bit at most.
-fn most_digits(version: usize) -> usize
-    ensures value { result ≡ most_digits version }
+fn most_digits(endless: bool) -> usize
+    ensures value { result ≡ most_digits endless }
     ensures few { result ≤ 19 }
 {
-    if version < RAW_VERSION as usize {
-        7
-    } else {
-        19
-    }
+    if endless { 19 } else { 7 }
 }

@@ -1,6 +1,6 @@
 //! What the words of a line ask for.
 
-ghost use Rattle.std.specs.Prelude.{◌≡◌, ◌≤◌, ℕ, [], ◌∷◌, map, codes, IfOk, IfErr};
+ghost use Rattle.std.specs.Prelude.{◌≡◌, ◌≤◌, ℕ, Bool, [], ◌∷◌, map, codes, IfOk, IfErr};
 ghost use Rattle.sja_live.specs.Commands.{AreCommandWords};
 ghost use Rattle.sja_live.specs.Inside.Reading.{IsCommandRefusal};
 
@@ -14,18 +14,19 @@ use sja_plan::{
 };
 use std::alloc::Global;
 
-/// What the words ask for, by this version of the rules, of a session of so many nodes.
+/// What the words ask for, by this version of the rules, of a session without an end or with one, of so many nodes.
 ///
 /// Errors: the first mistake in them; or memory was refused.
 pub(crate) fn command_of(
     alloc: Global,
     version: usize,
+    endless: bool,
     nodes: usize,
     words: &[&str],
 ) -> Result<LiveCommand, CommandRefusal>
     requires { nodes ≤ 8 }
-    ensures ok { IfOk result (λ c. AreCommandWords version nodes (map (λ w. w.now) words.now) c) }
-    ensures err { IfErr result (IsCommandRefusal version nodes (map (λ w. w.now) words.now)) }
+    ensures ok { IfOk result (λ c. AreCommandWords version endless nodes (map (λ w. w.now) words.now) c) }
+    ensures err { IfErr result (IsCommandRefusal version endless nodes (map (λ w. w.now) words.now)) }
 {
     if words.len() >= 2 && words[0] == "step" {
         return step_of_node(alloc, version, nodes, words[1], &words[2..]);
@@ -36,7 +37,7 @@ pub(crate) fn command_of(
     match *words {
         [name] => of_one_word(name),
         [name, word] => of_two_words(nodes, name, word),
-        [name, node, word] => of_three_words(version, nodes, name, node, word),
+        [name, node, word] => of_three_words(version, endless, nodes, name, node, word),
         [name, node, address, value] => of_four_words(version, nodes, name, node, address, value),
         _ => Err(CommandRefusal::Mistaken(LineFault::Command)),
     }
@@ -51,9 +52,10 @@ fn step_of_node(
     rest: &[&str],
 ) -> Result<LiveCommand, CommandRefusal>
     requires { nodes ≤ 8 }
-    ensures ok { IfOk result (λ c.
-        AreCommandWords version nodes (codes "step" ∷ node.now ∷ map (λ w. w.now) rest.now) c) }
-    ensures err { IfErr result (IsCommandRefusal version nodes (codes "step" ∷ node.now ∷ map (λ w. w.now) rest.now)) }
+    ensures ok { (endless : Bool) → IfOk result (λ c.
+        AreCommandWords version endless nodes (codes "step" ∷ node.now ∷ map (λ w. w.now) rest.now) c) }
+    ensures err { (endless : Bool) → IfErr result
+        (IsCommandRefusal version endless nodes (codes "step" ∷ node.now ∷ map (λ w. w.now) rest.now)) }
 {
     let Ok(node) = node_within(nodes, node) else {
         return Err(CommandRefusal::Mistaken(LineFault::Node));
@@ -67,8 +69,10 @@ fn step_of_node(
 
 /// The command of one word.
 fn of_one_word(name: &str) -> Result<LiveCommand, CommandRefusal>
-    ensures ok { (version nodes : ℕ) → IfOk result (λ c. AreCommandWords version nodes (name.now ∷ []) c) }
-    ensures err { (version nodes : ℕ) → IfErr result (IsCommandRefusal version nodes (name.now ∷ [])) }
+    ensures ok { (version : ℕ) (endless : Bool) (nodes : ℕ) → IfOk result (λ c.
+        AreCommandWords version endless nodes (name.now ∷ []) c) }
+    ensures err { (version : ℕ) (endless : Bool) (nodes : ℕ) → IfErr result
+        (IsCommandRefusal version endless nodes (name.now ∷ [])) }
 {
     match name {
         "rest" => Ok(LiveCommand::Rest),
@@ -85,8 +89,10 @@ fn of_two_words(nodes: usize, name: &str, word: &str) -> Result<LiveCommand, Com
     requires few { nodes ≤ 8 }
     requires other { name.now ≡ codes "step" → ⊥ }
     requires no_way { name.now ≡ codes "to" → ⊥ }
-    ensures ok { (version : ℕ) → IfOk result (λ c. AreCommandWords version nodes (name.now ∷ word.now ∷ []) c) }
-    ensures err { (version : ℕ) → IfErr result (IsCommandRefusal version nodes (name.now ∷ word.now ∷ [])) }
+    ensures ok { (version : ℕ) (endless : Bool) → IfOk result (λ c.
+        AreCommandWords version endless nodes (name.now ∷ word.now ∷ []) c) }
+    ensures err { (version : ℕ) (endless : Bool) → IfErr result
+        (IsCommandRefusal version endless nodes (name.now ∷ word.now ∷ [])) }
 {
     match name {
         "run" => match number_within(word, 0, GREATEST_NUMBER) {
@@ -108,6 +114,7 @@ fn of_two_words(nodes: usize, name: &str, word: &str) -> Result<LiveCommand, Com
 /// The command of a name, a node and the word behind it.
 fn of_three_words(
     version: usize,
+    endless: bool,
     nodes: usize,
     name: &str,
     node: &str,
@@ -116,8 +123,8 @@ fn of_three_words(
     requires few { nodes ≤ 8 }
     requires other { name.now ≡ codes "step" → ⊥ }
     requires no_way { name.now ≡ codes "to" → ⊥ }
-    ensures ok { IfOk result (λ c. AreCommandWords version nodes (name.now ∷ node.now ∷ word.now ∷ []) c) }
-    ensures err { IfErr result (IsCommandRefusal version nodes (name.now ∷ node.now ∷ word.now ∷ [])) }
+    ensures ok { IfOk result (λ c. AreCommandWords version endless nodes (name.now ∷ node.now ∷ word.now ∷ []) c) }
+    ensures err { IfErr result (IsCommandRefusal version endless nodes (name.now ∷ node.now ∷ word.now ∷ [])) }
 {
     let is_read = name == "read";
     if !is_read && name != "strike" {
@@ -132,7 +139,7 @@ fn of_three_words(
             Err(_) => Err(CommandRefusal::Mistaken(LineFault::Address)),
         }
     } else {
-        match bit_of(version, word) {
+        match bit_of(endless, word) {
             Some(bit) => Ok(LiveCommand::Strike(node, bit)),
             None => Err(CommandRefusal::Mistaken(LineFault::Number)),
         }
@@ -151,9 +158,10 @@ fn of_four_words(
     requires few { nodes ≤ 8 }
     requires other { name.now ≡ codes "step" → ⊥ }
     requires no_way { name.now ≡ codes "to" → ⊥ }
-    ensures ok { IfOk result (λ c.
-        AreCommandWords version nodes (name.now ∷ node.now ∷ address.now ∷ value.now ∷ []) c) }
-    ensures err { IfErr result (IsCommandRefusal version nodes (name.now ∷ node.now ∷ address.now ∷ value.now ∷ [])) }
+    ensures ok { (endless : Bool) → IfOk result (λ c.
+        AreCommandWords version endless nodes (name.now ∷ node.now ∷ address.now ∷ value.now ∷ []) c) }
+    ensures err { (endless : Bool) → IfErr result
+        (IsCommandRefusal version endless nodes (name.now ∷ node.now ∷ address.now ∷ value.now ∷ [])) }
 {
     if name != "write" {
         return Err(CommandRefusal::Mistaken(LineFault::Command));

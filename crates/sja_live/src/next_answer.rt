@@ -87,8 +87,8 @@ fn answer_of(
     ensures err { IfErr result (λ fault. fault ≡ Memory) }
 {
     let version = usize::from(session.version());
-    let nodes = session.nodes();
-    match asked(alloc, version, nodes, line) {
+    let (endless, nodes) = (session.is_endless(), session.nodes());
+    match asked(alloc, version, endless, nodes, line) {
         Ok(LiveCommand::End) => Ok(None),
         Ok(command) => Ok(Some(answered(alloc, session, command)?)),
         Err(CommandRefusal::Mistaken(fault)) => Ok(Some(LiveAnswer::Mistaken(fault))),

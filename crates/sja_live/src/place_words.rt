@@ -1,6 +1,6 @@
 //! The words of a line that runs to a place.
 
-ghost use Rattle.std.specs.Prelude.{◌≤◌, ℕ, ◌∷◌, map, codes, IfOk, IfErr};
+ghost use Rattle.std.specs.Prelude.{◌≤◌, ℕ, Bool, ◌∷◌, map, codes, IfOk, IfErr};
 ghost use Rattle.sja_live.specs.Commands.{AreCommandWords};
 ghost use Rattle.sja_live.specs.Inside.Reading.{IsCommandRefusal, SaysWay, IsWayRefusal};
 
@@ -16,10 +16,10 @@ pub(crate) fn to_place_of(
     rest: &[&str],
 ) -> Result<LiveCommand, CommandRefusal>
     requires { nodes ≤ 8 }
-    ensures ok { (version : ℕ) → IfOk result (λ c.
-        AreCommandWords version nodes (codes "to" ∷ node.now ∷ map (λ w. w.now) rest.now) c) }
-    ensures err { (version : ℕ) → IfErr result
-        (IsCommandRefusal version nodes (codes "to" ∷ node.now ∷ map (λ w. w.now) rest.now)) }
+    ensures ok { (version : ℕ) (endless : Bool) → IfOk result (λ c.
+        AreCommandWords version endless nodes (codes "to" ∷ node.now ∷ map (λ w. w.now) rest.now) c) }
+    ensures err { (version : ℕ) (endless : Bool) → IfErr result
+        (IsCommandRefusal version endless nodes (codes "to" ∷ node.now ∷ map (λ w. w.now) rest.now)) }
 {
     match *rest {
         [name, limit] => way_of(nodes, node, place_of_word(name), limit),

@@ -1,5 +1,5 @@
 -- The words of a line that runs to a place.
-use Rattle.std.proofs.Common.{◌≡◌, ◌<◌, ◌≤◌, ℕ, List, [], ◌∷◌, ◌++◌, length, codes, refl, ap, subst}
+use Rattle.std.proofs.Common.{◌≡◌, ◌<◌, ◌≤◌, ℕ, Bool, List, [], ◌∷◌, ◌++◌, length, codes, refl, ap, subst}
 use Rattle.std.proofs.Common.{Bor, arith, inl, inr}
 use Rattle.std.specs.Prelude.{Option, Some, None, Result, Ok, Err, IfOk, IfErr}
 use Rattle.sja_live.specs.Commands.{AreCommandWords, ArePlaceWords, IsToLine}
@@ -18,40 +18,42 @@ use Rattle.sja_plan.specs.declared.place.Place.{Place}
 use Rattle.sja_plan.specs.Words.{Text}
 
 -- what the words behind the node say is what the line asks for
-pub way_asked : (version nodes : ℕ) (k n : Text) (names : List Text) (place : Option Place) (c : LiveCommand) →
+pub way_asked : (version : ℕ) (endless : Bool) (nodes : ℕ) (k n : Text) (names : List Text)
+    (place : Option Place) (c : LiveCommand) →
     ArePlaceWords names place → SaysWay nodes k place n c →
-    AreCommandWords version nodes (codes "to" ∷ k ∷ (names ++ n ∷ [])) c
-way_asked version nodes k n names place (To node p limit) are says =
+    AreCommandWords version endless nodes (codes "to" ∷ k ∷ (names ++ n ∷ [])) c
+way_asked version endless nodes k n names place (To node p limit) are says =
     (k, n, record { names = names; are = subst (ArePlaceWords names) says.0 are; whole = refl }, says.1, says.2)
-way_asked version nodes k n names place (Step node this) are says = absurd says
-way_asked version nodes k n names place (Read node address) are says = absurd says
-way_asked version nodes k n names place (Write node address value) are says = absurd says
-way_asked version nodes k n names place (Run count) are says = absurd says
-way_asked version nodes k n names place Rest are says = absurd says
-way_asked version nodes k n names place Line are says = absurd says
-way_asked version nodes k n names place (Strike node bit) are says = absurd says
-way_asked version nodes k n names place (Answer node) are says = absurd says
-way_asked version nodes k n names place (PlaceOf node) are says = absurd says
-way_asked version nodes k n names place Bits are says = absurd says
-way_asked version nodes k n names place Plan are says = absurd says
-way_asked version nodes k n names place End are says = absurd says
+way_asked version endless nodes k n names place (Step node this) are says = absurd says
+way_asked version endless nodes k n names place (Read node address) are says = absurd says
+way_asked version endless nodes k n names place (Write node address value) are says = absurd says
+way_asked version endless nodes k n names place (Run count) are says = absurd says
+way_asked version endless nodes k n names place Rest are says = absurd says
+way_asked version endless nodes k n names place Line are says = absurd says
+way_asked version endless nodes k n names place (Strike node bit) are says = absurd says
+way_asked version endless nodes k n names place (Answer node) are says = absurd says
+way_asked version endless nodes k n names place (PlaceOf node) are says = absurd says
+way_asked version endless nodes k n names place Bits are says = absurd says
+way_asked version endless nodes k n names place Plan are says = absurd says
+way_asked version endless nodes k n names place End are says = absurd says
 
 -- and why they say nothing is why the line asks for nothing
-pub way_mistaken : (version nodes : ℕ) (k n : Text) (names : List Text) (place : Option Place) (r : CommandRefusal) →
+pub way_mistaken : (version : ℕ) (endless : Bool) (nodes : ℕ) (k n : Text) (names : List Text)
+    (place : Option Place) (r : CommandRefusal) →
     ArePlaceWords names place → IsWayRefusal nodes k place n r →
-    IsCommandRefusal version nodes (codes "to" ∷ k ∷ (names ++ n ∷ [])) r
-way_mistaken version nodes k n names place Memory are f = tt
-way_mistaken version nodes k n names place (Mistaken Node) are f =
+    IsCommandRefusal version endless nodes (codes "to" ∷ k ∷ (names ++ n ∷ [])) r
+way_mistaken version endless nodes k n names place Memory are f = tt
+way_mistaken version endless nodes k n names place (Mistaken Node) are f =
     (k, inr (inr (inr (inr (inr (inr (place, n, record { names = names; are = are; whole = refl })))))), f)
-way_mistaken version nodes k n names place (Mistaken NoPlace) are f =
+way_mistaken version endless nodes k n names place (Mistaken NoPlace) are f =
     (k, n, record { names = names; are = subst (ArePlaceWords names) f.0 are; whole = refl }, f.1)
-way_mistaken version nodes k n names place (Mistaken Number) are f =
+way_mistaken version endless nodes k n names place (Mistaken Number) are f =
     inr (inr (k, n, f.0, record { names = names; are = subst (ArePlaceWords names) f.1 are; whole = refl }, f.2, f.3))
-way_mistaken version nodes k n names place (Mistaken NoText) are f = absurd f
-way_mistaken version nodes k n names place (Mistaken Command) are f = absurd f
-way_mistaken version nodes k n names place (Mistaken Address) are f = absurd f
-way_mistaken version nodes k n names place (Mistaken Byte) are f = absurd f
-way_mistaken version nodes k n names place (Mistaken StepWord) are f = absurd f
+way_mistaken version endless nodes k n names place (Mistaken NoText) are f = absurd f
+way_mistaken version endless nodes k n names place (Mistaken Command) are f = absurd f
+way_mistaken version endless nodes k n names place (Mistaken Address) are f = absurd f
+way_mistaken version endless nodes k n names place (Mistaken Byte) are f = absurd f
+way_mistaken version endless nodes k n names place (Mistaken StepWord) are f = absurd f
 
 -- two words behind the node, or three, or another number of them
 pub two_behind : (ws : List (Bor Text)) (d : Bor Text) → 2 ≤ length ws → length ws < 3 →

@@ -1,14 +1,16 @@
 -- What the first line says, and what each further one is answered.
-use Rattle.std.proofs.Common.{◌≡◌, ℕ, List, [], length, refl, sym, ap, ◌∙◌, subst, inl, inr, arith}
+use Rattle.std.proofs.Common.{◌≡◌, ℕ, Bool, true, false, List, [], length, refl, sym, ap, ◌∙◌, subst, inl, inr, arith}
 use Rattle.std.specs.Prelude.{Option, Some, None, Result, Ok, Err, String, string_bytes}
 use Rattle.std.specs.Global.{Global}
+use Rattle.std.proofs.lemmas.Bool.{le-ltb, lt-ltb}
 use Rattle.std.proofs.lemmas.Str.{IsUtf8-nil}
 use Rattle.sja_driver.specs.Accesses.{Access}
-use Rattle.sja_session.specs.Sessions.{SessionValue}
+use Rattle.sja_plan.specs.Limits.{most_bits}
+use Rattle.sja_session.specs.Sessions.{SessionValue, HasEnd, IsEndless}
 use Rattle.sja_live.proofs.Replies.Asked.{live_after}
 use Rattle.sja_live.proofs.Replies.Writable.{writable}
 use Rattle.sja_live.specs.Inside.Standing.{IsAnswered, IsLiveAt}
-use Rattle.sja_live.specs.Commands.{AsksFor}
+use Rattle.sja_live.specs.Commands.{AreCommandWords, lacks_end}
 use Rattle.sja_live.specs.Inside.Going.{FirstIs, FirstSays, IsAnswerOf, IsNext, IsNextAnswer}
 use Rattle.sja_live.specs.Inside.Reading.{IsLine, TakesLine}
 use Rattle.sja_live.specs.Lines.{behind_line, first_line, IsReadable}
@@ -110,31 +112,50 @@ next_told before after line was now accesses None t a =
     next_by before after (LineOf line) was now accesses None t (λ input left is.
     (a.0, inr (is.0, subst (EndsTalk was) is.1 a.1), is.2))
 
--- ---- by the session's own version and nodes
+-- ---- by the session's own version, end and nodes
 
-pub answers_end : (s : SessionValue) (version nodes : ℕ) (accesses : List (List Access)) (line : Text) →
-    version ≡ s.plan.version → nodes ≡ length s.plan.nodes → IsReadable line → AsksFor version nodes line End →
+-- it is without an end or with one
+lacks : (s : SessionValue) (b : Bool) → (b ≡ true → IsEndless s) → (b ≡ false → HasEnd s) → b ≡ lacks_end s.plan
+lacks s true lack have = sym (lt-ltb (most_bits s.plan.version) s.plan.bits (lack refl))
+lacks s false lack have = sym (le-ltb (most_bits s.plan.version) s.plan.bits (have refl))
+
+-- what holds by what it tells of itself
+own : (P : ℕ → Bool → ℕ → Type 0) (s : SessionValue) (version : ℕ) (endless : Bool) (nodes : ℕ) →
+    version ≡ s.plan.version → (endless ≡ true → IsEndless s) → (endless ≡ false → HasEnd s) →
+    nodes ≡ length s.plan.nodes → P version endless nodes →
+    P s.plan.version (lacks_end s.plan) (length s.plan.nodes)
+own P s version endless nodes v lack have n p =
+    subst (P s.plan.version (lacks_end s.plan)) n
+    (subst (λ e. P s.plan.version e nodes) (lacks s endless lack have) (subst (λ k. P k endless nodes) v p))
+
+pub answers_end : (s : SessionValue) (version : ℕ) (endless : Bool) (nodes : ℕ) (accesses : List (List Access))
+    (line : Text) → version ≡ s.plan.version → (endless ≡ true → IsEndless s) → (endless ≡ false → HasEnd s) →
+    nodes ≡ length s.plan.nodes → IsReadable line → AreCommandWords version endless nodes (words line) End →
     IsAnswerOf s s accesses line None
-answers_end s version nodes accesses line v n readable asks =
-    let own = subst (λ k. AsksFor s.plan.version k line End) n (subst (λ k. AsksFor k nodes line End) v asks) in
-    (refl, (readable, own))
+answers_end s version endless nodes accesses line v lack have n readable asks = (
+  refl,
+  (readable, own (λ k e m. AreCommandWords k e m (words line) End) s version endless nodes v lack have n asks),
+)
 
-pub answers_done : (was now : SessionValue) (version nodes : ℕ) (accesses : List (List Access)) (line : Text)
-    (command : LiveCommand) (answer : LiveAnswer) → version ≡ was.plan.version → nodes ≡ length was.plan.nodes →
-    IsReadable line → AsksFor version nodes line command → IsAnswered was now command answer → IsLiveAt was accesses →
-    IsAnswerOf was now accesses line (Some answer)
-answers_done was now version nodes accesses line command answer v n readable asks answered at =
+pub answers_done : (was now : SessionValue) (version : ℕ) (endless : Bool) (nodes : ℕ)
+    (accesses : List (List Access)) (line : Text) (command : LiveCommand) (answer : LiveAnswer) →
+    version ≡ was.plan.version → (endless ≡ true → IsEndless was) → (endless ≡ false → HasEnd was) →
+    nodes ≡ length was.plan.nodes → IsReadable line → AreCommandWords version endless nodes (words line) command →
+    IsAnswered was now command answer → IsLiveAt was accesses → IsAnswerOf was now accesses line (Some answer)
+answers_done was now version endless nodes accesses line command answer v lack have n readable asks answered at =
     let a = answered accesses at in
-    let own = subst (λ k. AsksFor was.plan.version k line command) n (subst (λ k. AsksFor k nodes line command) v asks)
-    in (a.0, done readable own a.1, a.2)
+    let asked =
+    own (λ k e m. AreCommandWords k e m (words line) command) was version endless nodes v lack have n asks in
+    (a.0, done readable asked a.1, a.2)
 
-pub answers_mistake : (s : SessionValue) (version nodes : ℕ) (accesses : List (List Access)) (line : Text)
-    (fault : LineFault) → version ≡ s.plan.version → nodes ≡ length s.plan.nodes → IsReadable line →
-    AreMistaken version nodes (words line) fault → IsLiveAt s accesses →
+pub answers_mistake : (s : SessionValue) (version : ℕ) (endless : Bool) (nodes : ℕ) (accesses : List (List Access))
+    (line : Text) (fault : LineFault) → version ≡ s.plan.version → (endless ≡ true → IsEndless s) →
+    (endless ≡ false → HasEnd s) → nodes ≡ length s.plan.nodes → IsReadable line →
+    AreMistaken version endless nodes (words line) fault → IsLiveAt s accesses →
     IsAnswerOf s s accesses line (Some (Mistaken fault))
-answers_mistake s version nodes accesses line fault v n readable wrong at =
-    let own = subst (λ k. AreMistaken s.plan.version k (words line) fault) n
-    (subst (λ k. AreMistaken k nodes (words line) fault) v wrong) in (accesses, mistaken readable own refl, at)
+answers_mistake s version endless nodes accesses line fault v lack have n readable wrong at =
+    let is = own (λ k e m. AreMistaken k e m (words line) fault) s version endless nodes v lack have n wrong in
+    (accesses, mistaken readable is refl, at)
 
 -- what the first line says
 pub ruleset first_lines = (first_opens, first_fails, first_long, first_no_text, first_over)

@@ -1,5 +1,5 @@
 -- What the words of a line ask for can be written.
-use Rattle.std.proofs.Common.{◌≡◌, ℕ, List, [], ◌∷◌, length, refl, subst, arith}
+use Rattle.std.proofs.Common.{◌≡◌, ℕ, Bool, List, [], ◌∷◌, length, refl, subst, arith}
 use Rattle.sja_session.specs.Sessions.{SessionValue}
 use Rattle.sja_live.specs.Commands.{AreCommandWords}
 use Rattle.sja_live.specs.Inside.Standing.{IsWritable}
@@ -30,19 +30,19 @@ spelled_step version ws (Command v) (a, e, k) = omega (arith, k.1)
 spelled_step version ws (Await n) (a, e, k) = (k.1, k.2)
 spelled_step version ws (At n) (v, a, e, k) = (v, k.2)
 
-pub writable : (s : SessionValue) (version : ℕ) (ws : List Text) (c : LiveCommand) → version ≡ s.plan.version →
-    AreCommandWords version (length s.plan.nodes) ws c → ¬ (c ≡ End) → IsWritable s c
-writable s version ws (Step node one) v a other =
+pub writable : (s : SessionValue) (version : ℕ) (endless : Bool) (ws : List Text) (c : LiveCommand) →
+    version ≡ s.plan.version → AreCommandWords version endless (length s.plan.nodes) ws c → ¬ (c ≡ End) → IsWritable s c
+writable s version endless ws (Step node one) v a other =
     subst (λ n. HasStepText n one) v (spelled_step version a.1 one a.4)
-writable s version ws (Read node address) v a other = tt
-writable s version ws (Write node address value) v a other = tt
-writable s version ws (Run count) v a other = tt
-writable s version ws Rest v a other = tt
-writable s version ws Line v a other = tt
-writable s version ws (Strike node bit) v a other = tt
-writable s version ws (Answer node) v a other = tt
-writable s version ws (To node place limit) v a other = tt
-writable s version ws (PlaceOf node) v a other = tt
-writable s version ws Bits v a other = tt
-writable s version ws Plan v a other = tt
-writable s version ws End v a other = absurd (other refl)
+writable s version endless ws (Read node address) v a other = tt
+writable s version endless ws (Write node address value) v a other = tt
+writable s version endless ws (Run count) v a other = tt
+writable s version endless ws Rest v a other = tt
+writable s version endless ws Line v a other = tt
+writable s version endless ws (Strike node bit) v a other = tt
+writable s version endless ws (Answer node) v a other = tt
+writable s version endless ws (To node place limit) v a other = tt
+writable s version endless ws (PlaceOf node) v a other = tt
+writable s version endless ws Bits v a other = tt
+writable s version endless ws Plan v a other = tt
+writable s version endless ws End v a other = absurd (other refl)

@@ -1,5 +1,6 @@
 -- Bits that words spell.
-use Rattle.std.proofs.Common.{◌≡◌, ◌≢◌, ◌≤◌, ◌<◌, ◌^◌, ℕ, true, Result, Ok, Err, length, get_or, IfSome, IfNone, arith}
+use Rattle.std.proofs.Common.{◌≡◌, ◌≢◌, ◌≤◌, ◌<◌, ◌^◌, ℕ, Bool, true, Result, Ok, Err, length, get_or}
+use Rattle.std.proofs.Common.{IfSome, IfNone, arith}
 use Rattle.std.proofs.lemmas.Str.Parse.{parse_plain, digits_value_short}
 use Rattle.std.specs.Result.{OkIff, result_ok}
 use Rattle.std.specs.Str.{all_ascii_digits}
@@ -9,15 +10,15 @@ use Rattle.sja_plan.specs.Words.{Text}
 use Rattle.sja_live.specs.Commands.{most_digits, SpellsBit}
 
 -- a short word with no plus in front parses as the bit that it spells, if any
-pub parsed_bit : {E : Type 0} (version : ℕ) (word : Text) (r : Result ℕ E) → ParsesUnsigned 64 10 word r →
-    get_or word 0 0 ≢ 43 → length word ≤ most_digits version → most_digits version ≤ 19 →
-    IfSome (result_ok r) (SpellsBit version word)
-    × IfNone (result_ok r) ((bit : ℕ) → ¬ SpellsBit version word bit)
-parsed_bit {E} version word r h plain few most = by_result r (parse_plain own 64 word r h plain)
+pub parsed_bit : {E : Type 0} (endless : Bool) (word : Text) (r : Result ℕ E) → ParsesUnsigned 64 10 word r →
+    get_or word 0 0 ≢ 43 → length word ≤ most_digits endless → most_digits endless ≤ 19 →
+    IfSome (result_ok r) (SpellsBit endless word)
+    × IfNone (result_ok r) ((bit : ℕ) → ¬ SpellsBit endless word bit)
+parsed_bit {E} endless word r h plain few most = by_result r (parse_plain own 64 word r h plain)
   where
     by_result : (r : Result ℕ E) → OkIff r ((all_ascii_digits word ≡ true) × (0 < length word)
-        × (digits_value 10 word < 2 ^ 64)) (digits_value 10 word) → IfSome (result_ok r) (SpellsBit version word)
-        × IfNone (result_ok r) ((bit : ℕ) → ¬ SpellsBit version word bit)
+        × (digits_value 10 word < 2 ^ 64)) (digits_value 10 word) → IfSome (result_ok r) (SpellsBit endless word)
+        × IfNone (result_ok r) ((bit : ℕ) → ¬ SpellsBit endless word bit)
     by_result (Ok n) (p, is) = (record { some = p.1; few = few; digits = p.0; value = is }, tt)
     by_result (Err e) refused = (
       tt,

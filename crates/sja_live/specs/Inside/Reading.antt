@@ -1,5 +1,5 @@
 -- What the functions that read a line promise of one another.
-use Rattle.std.specs.Prelude.{◌≡◌, ◌<◌, ◌≤◌, ◌++◌, ℕ, Option, Some, None, List, [], ◌∷◌, length, take}
+use Rattle.std.specs.Prelude.{◌≡◌, ◌<◌, ◌≤◌, ◌++◌, ℕ, Bool, Option, Some, None, List, [], ◌∷◌, length, take}
 use Rattle.std.specs.Prelude.{string_bytes, IsUtf8}
 use Rattle.sja_live.specs.Lines.{most_line, first_line, behind_line, HasNoFeed, IsReadable}
 use Rattle.sja_live.specs.Mistakes.{AreMistaken, IsNoNode, IsNoNumber, IsSomeNode}
@@ -83,9 +83,9 @@ IsLineReadable Over = Unit {0}
 -- ---- words
 
 -- no command came of the words: the first mistake in them is this one, or memory was refused
-abbrev pub IsCommandRefusal : ℕ → ℕ → List Text → CommandRefusal → Type 0
-IsCommandRefusal version nodes ws (Mistaken fault) = AreMistaken version nodes ws fault
-IsCommandRefusal version nodes ws Memory = Unit {0}
+abbrev pub IsCommandRefusal : ℕ → Bool → ℕ → List Text → CommandRefusal → Type 0
+IsCommandRefusal version endless nodes ws (Mistaken fault) = AreMistaken version endless nodes ws fault
+IsCommandRefusal version endless nodes ws Memory = Unit {0}
 
 -- no session is opened by the line: the first mistake in it is this one, or memory was refused
 abbrev pub IsOpeningRefusal : Text → OpeningRefusal → Type 0

@@ -3,7 +3,7 @@ use Rattle.sja_live.proofs.command_words.of_four_words.Goals as goal
 
 -- the second word is no node
 pub returns-in_default-clause-err : goal.returns-in_default-clause-err
-returns-in_default-clause-err c =
+returns-in_default-clause-err c = λ endless.
     let node = c.args.node.now in let address = c.args.address.now in let value = c.args.value.now in
     let name : c.args.name.now ≡ codes "write" = search rules in
     let is = ap (λ (n : List ℕ). n ∷ node ∷ address ∷ value ∷ []) name in
@@ -11,7 +11,7 @@ returns-in_default-clause-err c =
 
 -- the third one is no address
 pub returns-in_default-address_of-clause-err : goal.returns-in_default-address_of-clause-err
-returns-in_default-address_of-clause-err c =
+returns-in_default-address_of-clause-err c = λ endless.
     let node = c.args.node.now in let address = c.args.address.now in let value = c.args.value.now in
     let name : c.args.name.now ≡ codes "write" = search rules in
     let is = ap (λ (n : List ℕ). n ∷ node ∷ address ∷ value ∷ []) name in (
@@ -24,7 +24,7 @@ returns-in_default-address_of-clause-err c =
 
 -- the fourth one is no value
 pub returns-in-Err-clause-err : goal.returns-in-Err-clause-err
-returns-in-Err-clause-err c =
+returns-in-Err-clause-err c = λ endless.
     let node = c.args.node.now in let address = c.args.address.now in let value = c.args.value.now in
     let name : c.args.name.now ≡ codes "write" = search rules in
     let is = ap (λ (n : List ℕ). n ∷ node ∷ address ∷ value ∷ []) name in (
