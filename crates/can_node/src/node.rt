@@ -102,6 +102,7 @@ impl Node {
     }
 
     /// Takes a request, to be sent as soon as the bus is idle. It is given back where one is held, or in reset.
+    #[inline(always)]
     pub fn request(&mut self, request: Request) -> Result<(), Request>
         ensures { Requests self.old self.new request result }
     {
