@@ -197,6 +197,7 @@ impl Seat {
     }
 
     /// The bits of a node that read these levels already and drove recessive.
+    #[inline(always)]
     fn has_read(&mut self, levels: &[Level])
         requires most { length levels.now ≤ 160 }
         requires free { length levels.now ≤ self.old.journal.room.all - length self.old.journal.entries }
