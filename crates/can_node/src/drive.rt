@@ -17,6 +17,7 @@ impl Node {
     ghost use Rattle.can_node.specs.Inside.Stages.{At, IsReading};
 
     /// The level that the node drives in the next bit.
+    #[inline(always)]
     pub(crate) fn next_level(&self) -> Level
         ensures { (c : ContextValue) (place : Place) (bits : List Bit)
             → At self.now.stage self.now.shift c (context_of self.now.context) place bits
