@@ -119,6 +119,7 @@ impl Bus {
     /// is said of the one before it.
     ///
     /// Error: [`BusFault::BadCredit`], [`BusFault::BadOrder`] or [`BusFault::JournalFull`], and then the same always.
+    #[inline(always)]
     pub fn gather<E: BusEnd>(&mut self, links: &mut [E]) -> Result<(), BusFault>
         requires ends { AreEnds E.node (length self.old.journals) links.old }
         requires links { HaveLinks E.links self.old.starts links.old }
