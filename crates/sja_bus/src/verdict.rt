@@ -69,7 +69,7 @@ impl Seat {
     {
         match accept(&mut self.ledger, end, &message) {
             Ok(verdict) => {
-                self.enter(Entry::Bit(driven, seen))?;
+                self.enter_bit(driven, seen)?;
                 let overrun = is_overrun(verdict);
                 self.enter(verdict_entry(verdict, message))?;
                 Ok(overrun)

@@ -26,26 +26,26 @@ use Rattle.sja_bus.proofs.ItemsTaken.OutOfRoom.{bit_unjudged, verdict_unjudged}
 use Rattle.lemmas.proofs.Results.{err_is}
 use Rattle.sja_bus.proofs.seat.Seat.judge.Goals as goal
 
-pub returns-in_ok-enter-in-Ok-2-clause-judged : goal.returns-in_ok-enter-in-Ok-2-clause-judged
-returns-in_ok-enter-in-Ok-2-clause-judged g c =
+pub returns-in_ok-enter-in-Ok-clause-judged : goal.returns-in_ok-enter-in-Ok-clause-judged
+returns-in_ok-enter-in-Ok-clause-judged g c =
     let was = c.args.self.now in let j = was.journal.entries in let k = j ++ Bit c.args.driven c.args.seen ∷ [] in
     let v = c.in-Ok.verdict in let m = c.args.message in
     let at = runs_at was.activity was.node j was.ended (free_in was.ledger) c.requires.runs c.requires.reads in
-    let first = c.in_ok-enter-in-Ok.ensures.ok.0 in
+    let first = c.in_ok-enter_bit-in-Ok.ensures.ok.0 in
     record {
       verdict = v;
       overrun_is = c.is_overrun-overrun.ensures m;
-      whole = c.in_ok-enter-in-Ok-2.ensures.ok.0 ∙ ap (λ (l : List Entry). l ++ c.verdict_entry.result ∷ []) first
+      whole = c.in_ok-enter-in-Ok.ensures.ok.0 ∙ ap (λ (l : List Entry). l ++ c.verdict_entry.result ∷ []) first
           ∙ ap (λ x. k ++ x ∷ []) c.verdict_entry.ensures;
       due = due_now j c.args.driven c.args.seen (suc was.ended) v m (free_in was.ledger) at c.requires.reads.free_is
           (λ p f. (c.in-Ok.ensures.judged p f).0);
     }
 
-pub returns-in_ok-enter-in-Ok-2-clause-reads : goal.returns-in_ok-enter-in-Ok-2-clause-reads
-returns-in_ok-enter-in-Ok-2-clause-reads g c =
+pub returns-in_ok-enter-in-Ok-clause-reads : goal.returns-in_ok-enter-in-Ok-clause-reads
+returns-in_ok-enter-in-Ok-clause-reads g c =
     let was = c.args.self.now in let j = was.journal.entries in let k = j ++ Bit c.args.driven c.args.seen ∷ [] in
     let v = c.in-Ok.verdict in let m = c.args.message in
-    let first = c.in_ok-enter-in-Ok.ensures.ok.0 in
+    let first = c.in_ok-enter_bit-in-Ok.ensures.ok.0 in
     let one = reads_quiet was.node was.node j (Bit c.args.driven c.args.seen) was.ended was.activity
     (free_in was.ledger) (λ p. refl, refl, refl, refl) (λ r. r) c.requires.reads in
     let at = runs_at was.activity was.node j was.ended (free_in was.ledger) c.requires.runs c.requires.reads in
@@ -58,22 +58,22 @@ returns-in_ok-enter-in-Ok-2-clause-reads g c =
     let two = reads_here was.node was.node k (entry_of v m) was.ended was.activity (free_in was.ledger)
     (free_in c.accept.new.ledger) (verdict_stays v m) (verdict_no_stop v m) c.requires.runs (λ r. r)
     (λ p f. (c.in-Ok.ensures.judged p f).1) due one in
-    let o1 = c.in_ok-enter-in-Ok.ensures.others in let o2 = c.in_ok-enter-in-Ok-2.ensures.others in
-    reads_by c.enter-in-Ok.new.self was.node (k ++ entry_of v m ∷ []) was.ended was.activity
+    let o1 = c.in_ok-enter_bit-in-Ok.ensures.others in let o2 = c.in_ok-enter-in-Ok.ensures.others in
+    reads_by c.enter.new.self was.node (k ++ entry_of v m ∷ []) was.ended was.activity
     (free_in c.accept.new.ledger)
     (ap (λ (s : Seat). s.node) o2 ∙ ap (λ (s : Seat). s.node) o1)
-    (c.in_ok-enter-in-Ok-2.ensures.ok.0 ∙ ap (λ (l : List Entry). l ++ c.verdict_entry.result ∷ []) first
+    (c.in_ok-enter-in-Ok.ensures.ok.0 ∙ ap (λ (l : List Entry). l ++ c.verdict_entry.result ∷ []) first
     ∙ ap (λ x. k ++ x ∷ []) c.verdict_entry.ensures)
     (ap (λ (s : Seat). s.ended) o2 ∙ ap (λ (s : Seat). s.ended) o1)
     (ap (λ (s : Seat). s.activity) o2 ∙ ap (λ (s : Seat). s.activity) o1)
     (ap (λ (s : Seat). free_in s.ledger) o2 ∙ ap (λ (s : Seat). free_in s.ledger) o1) two
 
-pub returns-in_ok-enter-in-Ok-2-clause-moves : goal.returns-in_ok-enter-in-Ok-2-clause-moves
-returns-in_ok-enter-in-Ok-2-clause-moves g c =
+pub returns-in_ok-enter-in-Ok-clause-moves : goal.returns-in_ok-enter-in-Ok-clause-moves
+returns-in_ok-enter-in-Ok-clause-moves g c =
     let was = c.args.self.now in let j = was.journal.entries in let b =
     Bit c.args.driven c.args.seen in let k = j ++ b ∷ [] in
     let v = c.in-Ok.verdict in let m = c.args.message in
-    let first = c.in_ok-enter-in-Ok.ensures.ok.0 in let own = c.requires.seat.own in
+    let first = c.in_ok-enter_bit-in-Ok.ensures.ok.0 in let own = c.requires.seat.own in
     let O : ℕ → Type 0 = λ a. OthersStand g.E.BusEnd.stands a c.args.end.now c.accept.new.end in
     let P : ℕ → Type 0 = λ a. Carries g.E.BusEnd.stands a c.args.end.now c.accept.new.end
     (λ l. with_entry l (entry_of v m)) in
@@ -84,21 +84,21 @@ returns-in_ok-enter-in-Ok-2-clause-moves g c =
     let two = moves_push g.E.BusEnd.stands c.args.end.now c.accept.new.end k (entry_of v m) (suc was.ended)
     (stands_at k (entry_of v m) (suc was.ended) (stays_of (entry_of v m) (verdict_stays v m)) then)
     (subst O own c.accept.ensures.others) (subst P own c.in-Ok.ensures.puts) in
-    let whole : c.enter-in-Ok.new.self.journal.entries ≡ k ++ entry_of v m ∷ [] = c.in_ok-enter-in-Ok-2.ensures.ok.0
+    let whole : c.enter.new.self.journal.entries ≡ k ++ entry_of v m ∷ [] = c.in_ok-enter-in-Ok.ensures.ok.0
     ∙ ap (λ (l : List Entry). l ++ c.verdict_entry.result ∷ []) first
     ∙ ap (λ x. k ++ x ∷ []) c.verdict_entry.ensures in
     rw whole (moves_trans g.E.BusEnd.stands c.args.end.now c.args.end.now c.accept.new.end j k (k ++ entry_of v m ∷ [])
     (suc was.ended) one two)
 
-pub returns-in_err-enter-in-Ok-clause-broken : goal.returns-in_err-enter-in-Ok-clause-broken
-returns-in_err-enter-in-Ok-clause-broken g c =
-    let E = g.E.BusEnd in let was = c.args.self.now in let j = was.journal.entries in let new = c.enter.new.self in
+pub returns-in_err-enter_bit-in-Ok-clause-broken : goal.returns-in_err-enter_bit-in-Ok-clause-broken
+returns-in_err-enter_bit-in-Ok-clause-broken g c =
+    let E = g.E.BusEnd in let was = c.args.self.now in let j = was.journal.entries in let new = c.enter_bit.new.self in
     let x = c.args.driven in let seen = c.args.seen in let v = c.in-Ok.verdict in let m = c.args.message in
     let room = was.journal.room in let a = suc was.ended in
     let at = runs_at was.activity was.node j was.ended (free_in was.ledger) c.requires.runs c.requires.reads in
     let due = due_now j x seen a v m (free_in was.ledger) at c.requires.reads.free_is
     (λ p f. (c.in-Ok.ensures.judged p f).0) in
-    let f = c.in_err-enter-in-Ok.field-0.0 in let full = c.in_err-enter-in-Ok.ensures.full in
+    let f = c.in_err-enter_bit-in-Ok.field-0.0 in let full = c.in_err-enter_bit-in-Ok.ensures.full in
     let is : c.from_residual.result ≡ Err f = search rules in
     let Q : _ → Type 0 = λ y. BreaksBy (IsJudgedShort room j x seen a m new.journal.entries) E
     c.args.end.now was new y in
@@ -106,18 +106,18 @@ returns-in_err-enter-in-Ok-clause-broken g c =
     err_is Q c.from_residual.result f is (subst Q (sym (full.is ∙ ap (λ k. JournalFull k) node))
     (refl, bit_unjudged room j new.journal.entries x seen a v m full.same full.full due))
 
-pub returns-in_err-enter-in-Ok-2-clause-broken : goal.returns-in_err-enter-in-Ok-2-clause-broken
-returns-in_err-enter-in-Ok-2-clause-broken g c =
+pub returns-in_err-enter-in-Ok-clause-broken : goal.returns-in_err-enter-in-Ok-clause-broken
+returns-in_err-enter-in-Ok-clause-broken g c =
     let E = g.E.BusEnd in let was = c.args.self.now in let j = was.journal.entries in let new =
-    c.enter-in-Ok.new.self in
+    c.enter.new.self in
     let x = c.args.driven in let seen = c.args.seen in let v = c.in-Ok.verdict in let m = c.args.message in
     let room = was.journal.room in let a = suc was.ended in
     let at = runs_at was.activity was.node j was.ended (free_in was.ledger) c.requires.runs c.requires.reads in
     let due = due_now j x seen a v m (free_in was.ledger) at c.requires.reads.free_is
     (λ p f. (c.in-Ok.ensures.judged p f).0) in
-    let f = c.in_err-enter-in-Ok-2.field-0.0 in let full = c.in_err-enter-in-Ok-2.ensures.full in
-    let mid = c.enter.new.self in let first = c.in_ok-enter-in-Ok.ensures in
-    let is : c.from_residual-in_err-enter-in-Ok-2.result ≡ Err f = search rules in
+    let f = c.in_err-enter-in-Ok.field-0.0 in let full = c.in_err-enter-in-Ok.ensures.full in
+    let mid = c.enter_bit.new.self in let first = c.in_ok-enter_bit-in-Ok.ensures in
+    let is : c.from_residual-in_err-enter-in-Ok.result ≡ Err f = search rules in
     let Q : _ → Type 0 = λ y. BreaksBy (IsJudgedShort room j x seen a m new.journal.entries) E
     c.args.end.now was new y in
     let R : Room → Type 0 = λ n. IsFullFor n mid.journal.entries (entry_of v m) in
@@ -125,7 +125,7 @@ returns-in_err-enter-in-Ok-2-clause-broken g c =
     let D : Entry → Type 0 = λ e. IsFullFor mid.journal.room mid.journal.entries e in
     let node : (link_of mid.ledger).node ≡ (link_of was.ledger).node
     = ap (λ (s : Seat). (link_of s.ledger).node) first.others ∙ ap (λ (l : LinkId). l.node) c.in-Ok.ensures.id in
-    err_is Q c.from_residual-in_err-enter-in-Ok-2.result f is
+    err_is Q c.from_residual-in_err-enter-in-Ok.result f is
     (subst Q (sym (full.is ∙ ap (λ k. JournalFull k) node)) (
       refl,
       verdict_unjudged room j new.journal.entries x seen a v m (full.same ∙ first.ok.0)
