@@ -17,6 +17,9 @@ use can_bits::{Level, Shift};
 /// How many bits are run together at most: more than the stuffed part of a frame has.
 pub(crate) const MOST: usize = 160;
 
+/// Levels that are driven by who drives nothing, as many.
+static RECESSIVE: [Level; MOST] = [Level::Recessive; MOST];
+
 /// At which bits it is looked whether a run of bits can begin: after the first one of a call, and then after each of so
 /// many. To look at each bit would cost more, where a node has lost the frame that the others are in.
 const EACH: u32 = 4;
@@ -203,8 +206,7 @@ impl Seat {
         requires free { length levels.now ≤ self.old.journal.room.all - length self.old.journal.entries }
         ensures { self.new ≡ after_reading self.old.node levels.now self.old }
     {
-        let recessive = [Level::Recessive; MOST];
         self.journal
-            .enter_bits_reserved(&recessive[..levels.len()], levels);
+            .enter_bits_reserved(&RECESSIVE[..levels.len()], levels);
     }
 }
