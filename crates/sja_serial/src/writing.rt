@@ -55,7 +55,7 @@ impl SerialRun {
     }
 
     /// A write of a mode that isn't the same write of a typed driver.
-    #[inline(never)]
+    #[inline(always)]
     fn write_mode(&mut self, node: u8, value: u8)
         ghost setup: { Setup }
         requires run { IsRunBy setup self.old }
