@@ -9,6 +9,7 @@ use Rattle.sja_calls.specs.declared.state.State.{State}
 use Rattle.sja_calls.specs.declared.state.State.TheVariants.{Going, Ended as HasLog, Lost}
 use Rattle.sja_driver.specs.Accesses.{Access}
 use Rattle.sja_regs.specs.Bits.{is_set}
+use Rattle.sja_serial.specs.Accounts.{AreAccountsNow}
 use Rattle.sja_session.specs.ByAddress.{Reads, Writes, MayWrite, IsWriteFault as IsWriteFaultOf}
 use Rattle.sja_session.specs.Lines.{AreLines, IsStill, Looks}
 use Rattle.sja_session.specs.Running.{RunsBits, MayRun, LacksBusTurn}
@@ -140,9 +141,10 @@ IsStrikeFault node bit r StrikesUsed = IsStrikeFaultOf r node bit AllStrikes
 IsStrikeFault node bit r Memory = IsStrikeFaultOf r node bit NoStrikeMemory
 IsStrikeFault node bit r fault = ⊥
 
--- so many bits were run
+-- so many bits were run; and at this moment the messages of each driver are accounted for: of an activation that goes
+-- on, what was released so far and what lies unread
 abbrev pub IsNowOf : State → ℕ → Type 0
-IsNowOf was now = IfGoing was (λ r. now ≡ r.run.bits) ⊥
+IsNowOf was now = IfGoing was (λ r. (now ≡ r.run.bits) × AreAccountsNow r.run) ⊥
 
 -- a session that goes on always tells it
 abbrev pub IsNowFault : SessionValue → CallFault → Type 0

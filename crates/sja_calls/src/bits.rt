@@ -81,7 +81,7 @@ impl HeldSession {
         }
     }
 
-    /// How many bits were run.
+    /// How many bits were run. Its contract has the headline too, as it holds at this moment, with an end or without.
     ///
     /// Error: [`CallFault::Ended`].
     pub fn now(&self) -> Result<u64, CallFault>
@@ -89,7 +89,10 @@ impl HeldSession {
         ensures err { IfErr result (IsRefusal self.now.state IsNowFault) }
     {
         match &self.state {
-            State::Going(session) => Ok(session.now()),
+            State::Going(session) => {
+                session.accounts();
+                Ok(session.now())
+            }
             State::Ended(_, _) => Err(CallFault::Ended),
             State::Lost => Err(CallFault::Ended),
         }

@@ -1,4 +1,5 @@
 -- A talk, from its first line on.
 pub mod NewSessions
+pub mod SameEnd
 pub mod GoingOn
 pub mod BreakingOff

@@ -5,6 +5,7 @@ use Rattle.sja_log.specs.Headline.{AreAccounts}
 use Rattle.sja_log.specs.Log.{RunValue}
 use Rattle.sja_log.specs.Runs.{IsSerialRun}
 use Rattle.sja_log.specs.declared.end.End.TheVariants.{Turns as TurnsDone}
+use Rattle.sja_serial.specs.Accounts.{AreAccountsNow}
 use Rattle.sja_serial.specs.Ending.{IsLogOf}
 use Rattle.sja_session.specs.Sessions.{SessionValue, HasEnd, IsEndless, written}
 use Rattle.sja_live.specs.AnswerTexts.{no_report_text}
@@ -18,8 +19,9 @@ pub record IsLastLog (s : SessionValue) (accesses : List (List Access)) (log : R
   pub run : IsSerialRun (written s) log
   pub accounts : AreAccounts log
 
--- the text at the end is the report of such a log; without an end there is none, and that is said
+-- the text at the end is the report of such a log; without an end there is none, and that is said. Each driver's
+-- messages are accounted for all the same: of an activation that goes on, what was released and what lies unread
 abbrev pub IsLastText : SessionValue → List (List Access) → Text → Type 0
 IsLastText s accesses text =
     (HasEnd s × (log : RunValue) × IsLastLog s accesses log × (text ≡ report_text log))
-    ⊎ (IsEndless s × (text ≡ no_report_text))
+    ⊎ (IsEndless s × AreAccountsNow s.run × (text ≡ no_report_text))

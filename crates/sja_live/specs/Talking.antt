@@ -5,8 +5,8 @@ use Rattle.sja_driver.specs.Accesses.{Access}
 use Rattle.sja_session.specs.Sessions.{SessionValue}
 use Rattle.sja_live.specs.AnswerTexts.{answer_text, opened_text, opening_text}
 use Rattle.sja_live.specs.Answering.{Answers}
-use Rattle.sja_live.specs.Beginning.{IsNewOf}
-use Rattle.sja_live.specs.Commands.{AsksFor}
+use Rattle.sja_live.specs.Beginning.{IsNewOf, is_endless}
+use Rattle.sja_live.specs.Commands.{AsksFor, lacks_end}
 use Rattle.sja_live.specs.Ending.{IsLastText}
 use Rattle.sja_live.specs.Lines.{most_line, first_line, behind_line, HasBegun, LeadsOn, IsReadable}
 use Rattle.sja_live.specs.Mistakes.{IsMistaken}
@@ -57,7 +57,8 @@ EndsTalk s line = IsReadable line × AsksFor s line End
 
 -- ---- the whole
 
--- a session was opened by the first line, these lines were answered, and this is what was written so far
+-- a session was opened by the first line, these lines were answered, and this is what was written so far. It is without
+-- an end exactly where the first line asked for one
 pub record HasTalked (input rest : Text) (last : SessionValue) (accesses : List (List Access)) (output : Text) :
     Type 0 where
   pub some : ¬ (input ≡ [])
@@ -70,6 +71,7 @@ pub record HasTalked (input rest : Text) (last : SessionValue) (accesses : List 
   pub lead : LeadsOn (behind_line input) lines rest
   pub text : Text
   pub talks : Talks first (replicate opening.nodes []) lines last accesses text
+  pub as_opened : lacks_end last.plan ≡ is_endless opening
   pub output_is : output ≡ opened_text ++ text
 
 -- the talk is over: the next line ends it, or there is none; and the report of the session's log was written, or that

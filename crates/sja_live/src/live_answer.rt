@@ -17,7 +17,8 @@ pub enum LiveAnswer {
     /// So many bits were run, and in the last of them an interrupt line rose. Behind it the lines that are active, bit
     /// K for node K: `ran N line LL`.
     Rose(u32, u8),
-    /// So many bits were run, and what was waited for didn't come: `ran N spent`.
+    /// So many bits were run, and fewer were left than were asked for, or what was waited for didn't come: `ran N
+    /// spent`.
     Spent(u32),
     /// The interrupt lines that are active, bit K for node K: `line LL`.
     Lines(u8),

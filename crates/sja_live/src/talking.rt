@@ -149,6 +149,7 @@ fn put_report<W: Write>(alloc: Global, out: &mut W, session: Session) -> Result<
     ensures kept { IfErr result (λ f. f ≢ WriteFault → W.contents out.new ≡ W.contents out.old) }
     ensures memory { IfErr result (λ f. f ≢ WriteFault → f ≡ MemoryFault) }
 {
+    session.accounts();
     match session.finish(alloc) {
         Ok((_plan, log)) => {
             let text = report(alloc, &log)?;

@@ -1,9 +1,11 @@
-//! The headline of a session at any moment.
+//! The headline of a session at any moment, and what else holds of each.
 
 use super::session::Session;
 
 impl Session {
+    ghost use Rattle.std.specs.Prelude.{ℕ, List};
     ghost use Rattle.sja_serial.specs.Accounts.{AreAccountsNow};
+    ghost use Rattle.sja_session.specs.Sessions.{IsSession};
 
     /// The headline, at this moment, with an end or without: of each activation that a node's driver has begun, what it
     /// released, followed by what it left unread, is, in order and each once, the frames that its controller validly
@@ -11,11 +13,12 @@ impl Session {
     /// than 64 less the bytes stored and not yet collected back. Of an activation that goes on that is what was
     /// released so far, followed by what lies unread still.
     ///
-    /// It does nothing: it holds of every session at every moment, and a caller who needs that calls it for its
-    /// contract.
+    /// It does nothing: that holds of every session at every moment, and a caller who needs it calls it for its
+    /// contract. So does what else holds of each, for which laws of sessions ask.
     #[inline(always)]
     pub fn accounts(&self)
-        ensures { AreAccountsNow self.now.run }
+        ensures headline { AreAccountsNow self.now.run }
+        ensures stands { (sizes : List ℕ) × (capacity : ℕ) × IsSession self.now sizes capacity }
     {
         self.run.accounts();
     }

@@ -12,6 +12,7 @@ use Rattle.sja_live.specs.Inside.Going.{AppendsReport, FirstSays, Goes, IsNextAn
 use Rattle.sja_live.specs.Lines.{first_line, behind_line, LeadsOn}
 use Rattle.sja_live.specs.Lines.LeadsOn.{none, more}
 use Rattle.sja_live.proofs.Talks.NewSessions.{new_live}
+use Rattle.sja_live.proofs.Talks.SameEnd.{begins_as_opened, same_end}
 use Rattle.sja_live.specs.Talking.{EndsTalk, HasTalked, IsTold, Replies, Speaks}
 use Rattle.sja_live.specs.Talking.Talks.{begin, go_on}
 use Rattle.sja_live.specs.declared.live_answer.LiveAnswer.{LiveAnswer}
@@ -42,6 +43,7 @@ talk_more input rest was now accesses after said answer h some replies = record 
   lead = leads_more h.lead some;
   text = h.text ++ answer_text answer;
   talks = go_on h.talks replies;
+  as_opened = same_end was now accesses after (first_line rest) answer replies ∙ h.as_opened;
   output_is = ap (λ l. l ++ answer_text answer) h.output_is
       ∙ append_assoc opened_text h.text (answer_text answer);
 }
@@ -68,6 +70,7 @@ talk_begins (Some input) (Some left) (Some old) (Some new) opening s said is wro
       lead = none;
       text = [];
       talks = begin;
+      as_opened = begins_as_opened s opening (first_line input) opens is;
       output_is = sym (append-nil opened_text);
     } in (
       opened_text,

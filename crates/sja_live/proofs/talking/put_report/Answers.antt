@@ -37,5 +37,8 @@ pub returns-in-Err-Endless-clause-told : goal.returns-in-Err-Endless-clause-told
 returns-in-Err-Endless-clause-told g c =
     let is : c.in-Err-Endless.field-0 ≡ Endless = search rules in
     let endless = subst (λ f. IsNoPlan c.args.session f) is c.in-Err-Endless.ensures.err in
-    on_ok_weaker c.put-in-Err-Endless.result (λ wrote accesses at. (no_report_text, inr (endless, refl), wrote))
-    c.put-in-Err-Endless.ensures.told
+    on_ok_weaker c.put-in-Err-Endless.result (λ wrote accesses at. (
+      no_report_text,
+      inr (endless, c.accounts.ensures.headline, refl),
+      wrote,
+    )) c.put-in-Err-Endless.ensures.told
