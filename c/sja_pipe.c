@@ -549,27 +549,30 @@ static uint32_t first_node(uint64_t nodes)
     return node;
 }
 
+/* A line of the process has room for bits up to GREATEST. So more of them are asked for again, as long as none of those
+ * before was missing. */
 sja_answer sja_bits(sja *session, uint32_t count, uint32_t watch)
 {
     sja_answer told;
-    uint32_t status = is_askable(session, 0);
+    uint32_t status = is_askable(session, 0), most;
     uint64_t total = 0, before = 0, active = 0;
     uint64_t *look = watch != 0 ? &before : NULL;
     int none = 0;
 
     if (status != SJA_DONE)
         return answer(status, 0);
-    count = at_most(count, GREATEST);
     do {
-        told = run(session, count - (uint32_t)total, look, &active, &none);
+        most = at_most(count - (uint32_t)total, GREATEST);
+        told = run(session, most, look, &active, &none);
         if (told.status != SJA_DONE)
             return told;
         total += told.value;
         if (!none && (active & ~before & watch))
             return (sja_answer){ SJA_DONE, first_node(active & ~before & watch), total };
-        before = active;
+        if (!none)
+            before = active;
         look = NULL;
-    } while (!none && total < count);
+    } while (total < count && (!none || told.value == most));
     return answer(SJA_DONE, total);
 }
 

@@ -28,8 +28,8 @@ LINES = {"no VERSION": "NO_VERSION", "no BITS": "NO_BITS", "no NODES": "NO_NODES
          "full TURNS": "TURNS_USED", "full STRIKES": "STRIKES_USED", "full PLAN": "NO_DOCUMENT"}
 
 
-# The greatest number that a call of c/sja.h takes.
-GREATEST = 2**32 - 1
+# The greatest number that a call of c/sja.h takes, and the greatest number of bits in a line to `sja live`.
+GREATEST, MOST_BITS = 2**32 - 1, 9999999
 
 # The names of enum sja_places, in its order, as plans have them.
 NAMES = ["SOF", "ID", "SRR", "RTR", "IDE", "r1", "r0", "DLC", "data", "CRC", "CRC delimiter", "ACK", "ACK delimiter",
@@ -194,21 +194,23 @@ class _Process:
         return int(self._ask("line", "line").split()[1], 16)
 
     def _bits(self, count, watch):
-        """The lines are asked for together with the first bits, so that the process is woken once."""
+        """The lines are asked for together with the first bits, so that the process is woken once. A line of the
+        process has room for so many bits; more are asked for again, as long as none of those before was missing."""
         self._judge()
         total, before = 0, None if watch else 0
         while True:
-            self._say(("line\n" if before is None else "") + f"run {min(count - total, 9999999)}")
+            most = min(count - total, MOST_BITS)
+            self._say(("line\n" if before is None else "") + f"run {most}")
             if before is None:
                 before = int(self._hear("line").split()[1], 16)
             words = self._hear("ran").split()
             total += int(words[1])
             active = int(words[3], 16) if words[2:3] == ["line"] else None
             risen = (active or 0) & ~before & watch
-            if active is None or total >= count or risen:
+            if risen or total >= count or (active is None and int(words[1]) < most):
                 self.rose = (risen & -risen).bit_length()
                 return total
-            before = active
+            before = before if active is None else active
 
     def _irq(self, node):
         self._judge((0 <= node < self.nodes, "NO_NODE"))
@@ -230,7 +232,7 @@ class _Process:
     def _to(self, node, place, limit):
         self._judge((place in PLACES.values(), "NO_PLACE"), (0 <= node < self.nodes, "NO_NODE"))
         while True:
-            most = min(limit, 9999999)
+            most = min(limit, MOST_BITS)
             words = self._ask(f"to {node} {_place_of(place)} {most}", "ran").split()
             limit = limit - most if int(words[1]) == most else 0
             if words[2:] != ["spent"] or not limit:

@@ -1,10 +1,11 @@
 /* Calls of a careless program, each with the status that it has to have: places and texts that are null, texts of a
- * session without an end; and, with the word `pipe`, of one over c/sja_pipe.c, SIGCHLD that is ignored and descriptors
- * that were closed. Prints those that have another; the status is 1 then. SJA names the program of the sessions.
- * `checks/c_library` runs it. */
+ * session without an end, and bits of one, more than a line of the pipe has room for; and, with the word `pipe`, of one
+ * over c/sja_pipe.c, SIGCHLD that is ignored and descriptors that were closed. Prints those that have another; the
+ * status is 1 then. SJA names the program of the sessions. `checks/c_library` runs it. */
 #define _GNU_SOURCE
 
 #include <fcntl.h>
+#include <inttypes.h>
 #include <signal.h>
 #include <stdio.h>
 #include <stdlib.h>
@@ -15,6 +16,9 @@
 #include "sja.h"
 
 enum { ROOM = 4096 };
+
+/* More bits than a line of the pipe has room for. */
+enum { MANY = 20000000, HALF = MANY / 2 + 1 };
 
 static const char no_plan[] = "version = 9\n";
 static char plan[ROOM], text[ROOM];
@@ -27,6 +31,16 @@ static void has_status(const char *row, sja_answer is, uint32_t wanted)
         return;
     bad++;
     printf("%s: status %u, not %u\n", row, (unsigned)is.status, (unsigned)wanted);
+}
+
+/* A call is done, with this number, and with this node's line that rose, counted from 1. */
+static void has_value(const char *row, sja_answer is, uint64_t value, uint32_t rose)
+{
+    has_status(row, is, SJA_DONE);
+    if (is.status != SJA_DONE || (is.value == value && is.rose == rose))
+        return;
+    bad++;
+    printf("%s: %" PRIu64 " and %u, not %" PRIu64 " and %u\n", row, is.value, (unsigned)is.rose, value, (unsigned)rose);
 }
 
 static sja *opened(const char *row)
@@ -72,12 +86,37 @@ static void try_endless(void)
     has_status("no bits in version 2", sja_new(2, 0, 1, &session), SJA_NO_BITS);
     has_status("nine nodes without an end", sja_new(3, 0, 9, &session), SJA_NO_NODES);
     has_status("a session without an end", sja_new(3, 0, 1, &session), SJA_DONE);
-    has_status("more bits than a plan has", sja_bits(session, 3000000, 0), SJA_DONE);
+    has_value("more bits than a plan has", sja_bits(session, MANY, 0), MANY, 0);
     has_status("its plan", sja_plan(session, text, ROOM), SJA_ENDLESS);
     has_status("its report", sja_report(session, text, ROOM), SJA_ENDLESS);
     has_status("a read after that", sja_read(session, 0, 2), SJA_DONE);
-    if (sja_now(session).value != 3000000)
-        has_status("as many bits as were run", (sja_answer){ .status = SJA_BROKEN }, SJA_DONE);
+    has_value("as many bits as were run", sja_now(session), MANY, 0);
+    sja_free(session);
+}
+
+/* Bits at once come to all that were asked for, to the rise of a watched line, and to a place, also behind more bits
+ * than a line of the pipe has room for. An idle node that sees the other level in a bit takes it for SOF, and has a
+ * stuff error six bits later, which raises its line. */
+static void try_many_bits(void)
+{
+    sja *session = NULL;
+
+    has_status("a session of many bits", sja_new(3, 0, 2, &session), SJA_DONE);
+    for (uint32_t node = 0; node < 2; node++)
+        has_status("its bus errors interrupt", sja_write(session, node, 4, 0x80), SJA_DONE);
+    has_status("node 1 leaves reset mode", sja_write(session, 1, 0, 0), SJA_DONE);
+    has_value("many watched bits", sja_bits(session, MANY, 3), MANY, 0);
+    has_status("a strike behind many bits", sja_strike(session, 1, MANY + HALF), SJA_DONE);
+    has_value("a watched rise behind many bits", sja_bits(session, MANY, 3), HALF + 7, 2);
+    has_value("it is the one that is active", sja_lines(session), 2, 0);
+    has_status("its interrupt is read", sja_read(session, 1, 3), SJA_DONE);
+    has_status("its error is read", sja_read(session, 1, 12), SJA_DONE);
+    has_status("one more strike", sja_strike(session, 1, 2 * MANY + HALF), SJA_DONE);
+    has_value("a rise that isn't watched", sja_bits(session, MANY, 1), MANY, 0);
+    has_value("all bits up to there", sja_now(session), 2 * MANY + HALF + 7, 0);
+    has_status("a strike before a place", sja_strike(session, 1, 3 * MANY + HALF), SJA_DONE);
+    has_value("a place behind many bits", sja_to(session, 1, SJA_ID + 27, MANY), 1, 0);
+    has_value("all bits up to that place", sja_now(session), 3 * MANY + HALF + 2, 0);
     sja_free(session);
 }
 
@@ -140,6 +179,7 @@ int main(int count, char **words)
     write_plan();
     try_null();
     try_endless();
+    try_many_bits();
     if (count == 2 && strcmp(words[1], "pipe") == 0) {
         try_ignored();
         try_closed();

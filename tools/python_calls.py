@@ -119,7 +119,10 @@ def endless(bus):
         ("PAST", "strike", (0, 3999999)), (None, "strike", (0, PAST + 5)), (None, "strike", (0, 2**62 - 1)),
         ("NO_BIT", "strike", (0, 2**62)), ("NO_BIT", "strike", (0, 2**64 + 4000001)), ("NO_BIT", "strike", (0, -1)),
         (None, "write", (0, 4, 0x12)), (0x12, "read", (0, 4)), ("ENDLESS", "report", ()), ("ENDLESS", "plan", ()),
-        (7, "run", (7,)), (4000007, "now", ()), ("NO_NODE", "irq", (1,)),
+        (7, "run", (7,)), (4000007, "now", ()), ("NO_NODE", "irq", (1,)), (20000000, "run", (20000000,)),
+        (None, "write", (0, 4, 0x80)), (None, "write", (0, 0, 0)), (20000000, "run", (20000000, 1)),
+        (None, "strike", (0, 55000000)), (11000000, "run", (20000000, 1)), (True, "irq", (0,)),
+        (None, "strike", (0, 70000000)), (True, "to", (0, "ID.27", 20000000)), (70000002, "now", ()),
     ]:
         yield f"{name}{numbers} without an end", lambda name=name, numbers=numbers: getattr(bus, name)(*numbers), wanted
 
