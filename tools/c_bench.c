@@ -1,10 +1,10 @@
 /* Accesses and bits over sja.h, to be counted from outside by `checks/c_bench`: those of a frame, or one kind alone.
  *
- *     c_bench KIND COUNT [NODES]
+ *     c_bench KIND COUNT [NODES [BITS]]
  *
- * Two nodes, or so many, are out of reset mode, by version 3. What is counted are the calls of the functions that are
- * called `counted_..`; all else of a repetition goes by the same calls of sja.h, uncounted. It prints how many calls
- * were counted.
+ * Two nodes, or so many, are out of reset mode, by version 3, in sessions of 2,000,000 bits, or of so many; with 0 they
+ * are without an end. What is counted are the calls of the functions that are called `counted_..`; all else of a
+ * repetition goes by the same calls of sja.h, uncounted. It prints how many calls were counted.
  */
 #include <stdio.h>
 #include <stdlib.h>
@@ -17,7 +17,7 @@ enum { RM = 1, LOM = 2, STM = 4 };
 enum { TR = 1, AT = 2, RRB = 4, CDO = 8, SRR = 16, FRAME_BITS = 150 };
 
 static sja *bus;
-static uint32_t nodes = 2;
+static uint32_t nodes = 2, most_bits = 2000000;
 static unsigned counted;
 
 __attribute__((noinline)) uint64_t counted_read(uint32_t node, uint32_t address)
@@ -42,7 +42,7 @@ __attribute__((noinline)) uint64_t counted_bits(uint32_t count, uint32_t watch)
 __attribute__((noinline)) uint32_t counted_new(void)
 {
     sja *other;
-    uint32_t status = sja_new(3, 2000000, nodes, &other).status;
+    uint32_t status = sja_new(3, most_bits, nodes, &other).status;
 
     counted++;
     return status == SJA_DONE ? sja_free(other).status : status;
@@ -220,7 +220,8 @@ int main(int words, char **word)
     int count = words >= 3 ? atoi(word[2]) : 0;
 
     nodes = words >= 4 ? (uint32_t)atoi(word[3]) : nodes;
-    if (count < 1 || nodes < 2 || sja_new(3, 2000000, nodes, &bus).status != SJA_DONE)
+    most_bits = words >= 5 ? (uint32_t)atoi(word[4]) : most_bits;
+    if (count < 1 || nodes < 2 || sja_new(3, most_bits, nodes, &bus).status != SJA_DONE)
         return 2;
     for (uint32_t node = 0; node < nodes; node++)
         sja_write(bus, node, MOD, 0);
