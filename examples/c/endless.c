@@ -1,5 +1,5 @@
 /* Two drivers on a bus that goes on until the program is told to stop, by SIGINT or SIGTERM: node 0 polls, node 1 is
- * woken by its interrupt. By turns each sends the other a message that has its number. Now and then a bit of a frame is
+ * woken by its interrupt. By turns each sends the other a message that has its number. Of one frame in eleven a bit is
  * struck at its sender, so that it is sent again, and now and then both go bus-off and restart. Each message has to be
  * received once, and in order. A line says from time to time how far the bus has come. Where a number stands behind the
  * program's name it stops after so many bits. The status is 1 where a message was missed or came twice, or a driver
@@ -17,8 +17,8 @@
 
 enum { VERSION = 3, WITHOUT_END = 0, ROUND = 300, ROUNDS = 10, LINE = 20000000 };
 
-/* One message of so many is struck, so many bits after it was asked for: in its data. */
-enum { STRUCK = 5000, IN_DATA = 50 };
+/* One message of so many is struck, so many bits after it was asked for: in its data. Both send such ones by turns. */
+enum { STRUCK = 11, IN_DATA = 50 };
 
 /* Both drivers restart once in so many messages. They are back after 128 times eleven recessive bits. */
 enum { RESTARTED = 50, BACK = 1500 };
@@ -62,6 +62,15 @@ static void strike(const struct board *board, uint64_t number)
     bit = now(board);
 #endif
     board_done("strike", sja_strike(board->session, board->node, bit));
+#ifdef KEEPS
+    /* Another one: of each strike memory is kept, as much as the library takes for it. */
+    static struct kept { struct kept *before; uint64_t bit, node; } *last;
+    struct kept *kept = malloc(sizeof *kept);
+
+    if (kept != NULL)
+        *kept = (struct kept){ last, bit, board->node };
+    last = kept;
+#endif
 }
 
 /* The one that polls sends a message, and the other one receives it. */
@@ -121,8 +130,8 @@ static void restart(struct polling *polling, struct interrupts *interrupts)
 
 static void tell(const struct polling *polling, const struct interrupts *interrupts, uint64_t messages)
 {
-    printf("%" PRIu64 " bits, %" PRIu64 " messages, %u restarts\n", now(&polling->board), messages,
-           polling->restarts + interrupts->restarts);
+    printf("%" PRIu64 " bits, %" PRIu64 " messages, %u restarts, %" PRIu64 " strikes\n", now(&polling->board), messages,
+           polling->restarts + interrupts->restarts, (messages + STRUCK - 1) / STRUCK);
     fflush(stdout);
 }
 
