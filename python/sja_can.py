@@ -138,7 +138,11 @@ class SjaBus(can.BusABC):
                 raise can.CanOperationError("the controller is off the bus")
             if len(self.node.waiting) >= QUEUE and timeout:
                 self._waited(lambda: len(self.node.waiting) < QUEUE, timeout)
-            if not self.hand_over(msg):
+            try:
+                taken = self.hand_over(msg)
+            except SjaError as error:
+                raise can.CanOperationError(f"sja: {error}") from error
+            if not taken:
                 raise can.CanOperationError("no buffer space available")
 
     def _waited(self, ready, timeout):

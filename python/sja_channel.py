@@ -68,10 +68,13 @@ class Channel:
         return free[0]
 
     def leave(self, node):
-        """Takes it off the bus; the last one ends the session."""
+        """Takes it off the bus, unless it has no access left; the last one ends the session."""
         with self.lock:
             try:
                 node.stop()
+            except SjaError as error:
+                if error.status != "STEPS_USED":
+                    raise
             finally:
                 self.nodes[node.number] = None
                 self.lock.notify_all()

@@ -254,6 +254,22 @@ def a_full_queue_says_so():
         return full and got == [*range(11), 0x101]
 
 
+def accesses_are_used_up_where_bits_end():
+    """Those of a sender alone, whose `send` says so, and those of a receiver, whose `recv` does. Each bus is left all
+    the same."""
+    frame = message(0x123, bytes(8))
+
+    def send(bus, waits):
+        for _ in range(5000):
+            bus.send(frame)
+            waits()
+    with buses(1, bits=2000000, presume_ack=True) as (one,):
+        sender = refused(lambda: send(one, lambda: one.sleep(200 / 500000)), can.CanOperationError)
+    with buses(2, bits=2000000) as (one, two):
+        receiver = refused(lambda: send(one, lambda: two.recv(1)), can.CanOperationError)
+    return sender and receiver
+
+
 def a_bus_begins_anew():
     with buses(2) as (one, two):
         name = one.channel.name
@@ -322,7 +338,7 @@ TESTS = [frames_come_as_they_were_sent, time_is_that_of_the_bus, a_bus_goes_on, 
          two_threads_answer_all_requests, threads_share_a_bus, a_notifier_uses_no_time_of_its_own, filters_choose,
          a_filter_that_fits_is_the_controllers, a_struck_frame_comes_once_more, one_shot_is_lost, no_acknowledgement_is_told, bus_off_and_restart,
          restart_ms_restarts, periodic_messages_go_by_bits, own_messages_come_where_asked, a_full_queue_says_so,
-         a_bus_begins_anew, what_cannot_be_is_refused, a_refused_bus_leaves_nothing, a_pace_is_that_of_the_clock,
+         accesses_are_used_up_where_bits_end, a_bus_begins_anew, what_cannot_be_is_refused, a_refused_bus_leaves_nothing, a_pace_is_that_of_the_clock,
          a_database_goes_over_it]
 
 
