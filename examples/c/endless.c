@@ -4,6 +4,8 @@
  * received once, and in order. A line says from time to time how far the bus has come. Where a number stands behind the
  * program's name it stops after so many bits. The status is 1 where a message was missed or came twice, or a driver
  * didn't come back. */
+#define _POSIX_C_SOURCE 200809L
+
 #include <inttypes.h>
 #include <signal.h>
 #include <stdio.h>
@@ -30,8 +32,16 @@ static volatile sig_atomic_t told_to_stop;
 
 static void stop(int number)
 {
-    signal(number, stop);
+    (void)number;
     told_to_stop = 1;
+}
+
+/* What a signal does from now on, however often it comes. */
+static void on(int number, void (*handler)(int))
+{
+    struct sigaction action = { .sa_handler = handler };
+
+    sigaction(number, &action, NULL);
 }
 
 static uint64_t now(const struct board *board)
@@ -161,10 +171,10 @@ int main(int count, char **words)
     sja *session;
 
     /* A process of the session's own ignores what stops this one. */
-    signal(SIGINT, SIG_IGN);
+    on(SIGINT, SIG_IGN);
     board_done("new", sja_new(VERSION, WITHOUT_END, 2, &session));
-    signal(SIGINT, stop);
-    signal(SIGTERM, stop);
+    on(SIGINT, stop);
+    on(SIGTERM, stop);
     if (!polling_open(&polling, session, 0, FILTER) || !interrupts_open(&interrupts, session, 1, FILTER))
         return 1;
     interrupts_run(&interrupts, 30);
