@@ -79,7 +79,7 @@ AnswersTo was now node place limit =
     Answers (λ number. (number ≤ 1) × ComesToOf was.state now.state node place limit (number == 1))
     (λ fault. IsRefusal was.state (IsToFault node place limit) fault × (now ≡ was))
 
--- so many bits were run before, and nothing changes
+-- so many bits were run before, at which moment the messages of each driver are accounted for, and nothing changes
 abbrev pub AnswersNow : HeldSession → HeldSession → SjaAnswer → Type 0
 AnswersNow was now r =
     Answers (λ number. IsNowOf was.state number) (λ fault. IsRefusal was.state IsNowFault fault) r × (now ≡ was)

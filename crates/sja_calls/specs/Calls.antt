@@ -141,8 +141,8 @@ IsStrikeFault node bit r StrikesUsed = IsStrikeFaultOf r node bit AllStrikes
 IsStrikeFault node bit r Memory = IsStrikeFaultOf r node bit NoStrikeMemory
 IsStrikeFault node bit r fault = ⊥
 
--- so many bits were run; and at this moment the messages of each driver are accounted for: of an activation that goes
--- on, what was released so far and what lies unread
+-- so many bits were run; and at this moment the messages of each driver are accounted for, in each activation that has
+-- begun: where one goes on, what was released so far and what lies unread
 abbrev pub IsNowOf : State → ℕ → Type 0
 IsNowOf was now = IfGoing was (λ r. (now ≡ r.run.bits) × AreAccountsNow r.run) ⊥
 

@@ -14,7 +14,8 @@ is_endless o = (o.version == 3) && (o.bits == 0)
 abbrev pub version_of : Opening → ℕ
 version_of o = if is_endless o then 4 else o.version
 
--- how many bits a session has that is opened so, and for what it has room: as much as a plan of its version has at most
+-- how many bits a session has that is opened so, and for what it has room: with an end for as much as a plan of its
+-- version has at most
 abbrev pub bits_of : Opening → ℕ
 bits_of o = if is_endless o then endless_bits else o.bits
 

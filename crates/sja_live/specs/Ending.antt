@@ -1,4 +1,4 @@
--- The log of a session of `sja live` at its end (this project's own rule).
+-- How a session of `sja live` ends: its log, and the text that is written (this project's own rule).
 use Rattle.std.specs.Prelude.{◌≡◌, ◌⊎◌, List}
 use Rattle.sja_driver.specs.Accesses.{Access}
 use Rattle.sja_log.specs.Headline.{AreAccounts}
@@ -19,8 +19,9 @@ pub record IsLastLog (s : SessionValue) (accesses : List (List Access)) (log : R
   pub run : IsSerialRun (written s) log
   pub accounts : AreAccounts log
 
--- the text at the end is the report of such a log; without an end there is none, and that is said. Each driver's
--- messages are accounted for all the same: of an activation that goes on, what was released and what lies unread
+-- the text at the end is the report of such a log; without an end there is none, and that is said. The messages of each
+-- driver are accounted for all the same, in each activation that has begun: where one goes on, what was released so far
+-- and what lies unread
 abbrev pub IsLastText : SessionValue → List (List Access) → Text → Type 0
 IsLastText s accesses text =
     (HasEnd s × (log : RunValue) × IsLastLog s accesses log × (text ≡ report_text log))

@@ -79,7 +79,7 @@ AreMistaken version endless nodes ws Number =
     ⊎ ((k b : Text) × IsStrikeLine ws k b × IsSomeNode nodes k × IsNoBit endless b)
     ⊎ ((k n : Text) × (place : Place) × IsToLine ws k (Some place) n × IsSomeNode nodes k × IsNoNumber n)
 
--- the line asks for nothing, of this session
+-- the line asks for nothing, of this session, for this reason
 abbrev pub IsMistaken : SessionValue → Text → LineFault → Type 0
 IsMistaken s line fault =
     AreMistaken s.plan.version (lacks_end s.plan) (length s.plan.nodes) (words line) fault

@@ -1,5 +1,6 @@
 -- A talk with `sja live` (this project's own rule): the first line opens a session, each further line is answered
--- before the next one is read, and `end` or the end of the input ends the talk with the report.
+-- before the next one is read, and `end` or the end of the input ends the talk with the report, or with a line that a
+-- session without an end has none.
 use Rattle.std.specs.Prelude.{◌≡◌, ◌⊎◌, ◌<◌, ◌≤◌, ◌++◌, Option, Some, None, List, [], ◌∷◌, length, replicate, IsUtf8}
 use Rattle.sja_driver.specs.Accesses.{Access}
 use Rattle.sja_session.specs.Sessions.{SessionValue}
@@ -57,8 +58,8 @@ EndsTalk s line = IsReadable line × AsksFor s line End
 
 -- ---- the whole
 
--- a session was opened by the first line, these lines were answered, and this is what was written so far. It is without
--- an end exactly where the first line asked for one
+-- a session was opened by the first line, these lines were answered, and this is what was written so far. The session
+-- lacks an end exactly where the first line asked for a session without one
 pub record HasTalked (input rest : Text) (last : SessionValue) (accesses : List (List Access)) (output : Text) :
     Type 0 where
   pub some : ¬ (input ≡ [])

@@ -27,7 +27,7 @@ use std::io::{Read, Write};
 
 /// Talks with whoever writes the input: the first line opens a session, each further line is a call of it, whose answer
 /// is written and flushed before the next line is read, and `end`, or the end of the input, ends the talk with the
-/// report of the session's log.
+/// report of the session's log, or with a line that a session without an end has none.
 ///
 /// Errors: [`TalkFault::Memory`], [`TalkFault::Read`] and [`TalkFault::Write`], where memory was refused, or a read or
 /// a write failed. What was answered before stays written.
@@ -69,7 +69,7 @@ fn new_session(alloc: Global, opening: Opening) -> Result<Session, SessionFault>
     Session::new(alloc, opening.version, opening.bits, opening.nodes)
 }
 
-/// Goes on with a talk whose first line opened this session, to its report.
+/// Goes on with a talk whose first line opened this session, to its end.
 ///
 /// Errors: those of [`talk`].
 fn talk_on<R: Read, W: Write>(

@@ -1,4 +1,4 @@
-//! The headline of a session at any moment, and what else holds of each.
+//! The headline of a session at any moment.
 
 use super::session::Session;
 
@@ -14,7 +14,8 @@ impl Session {
     /// released so far, followed by what lies unread still.
     ///
     /// It does nothing: that holds of every session at every moment, and a caller who needs it calls it for its
-    /// contract. So does what else holds of each, for which laws of sessions ask.
+    /// contract. The other clause is what each session keeps to, for which laws of sessions ask: it stands at some
+    /// steps, within its room, with an end within the limits of a plan, without one by the rules of version 3.
     #[inline(always)]
     pub fn accounts(&self)
         ensures headline { AreAccountsNow self.now.run }
