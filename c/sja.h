@@ -47,7 +47,9 @@ enum sja_status {
     SJA_BROKEN = 18,      /* sja_pipe.c alone: the process of the session can't be started, or doesn't answer and
                            * didn't say by its status that memory was refused */
     SJA_NO_PLACE = 19,    /* the number is no place's; told before SJA_NO_NODE */
-    SJA_ENDLESS = 20      /* the session is without an end: it has neither plan nor report, and goes on */
+    SJA_ENDLESS = 20,     /* the session is without an end: it has neither plan nor report, and goes on */
+    SJA_STOPPED = 21      /* sja_pipe.c alone: a check stopped the program, one with checks that isn't proved, by a
+                           * mistake of its own */
 };
 
 /* The places of a frame, and of the intermission after it, as the data sheet and the standard name them. Behind each

@@ -2,12 +2,13 @@
  * line back. What a driver does to its own memory does nothing to the session, and a session can be started beside any
  * program. For Linux and other POSIX systems.
  *
- * The environment variable SJA names the program; without it it is `sja` on the path. It has to be the proved program,
- * or a `./sja` that has one: without it `./sja live` opens no session, and sja_new answers SJA_BROKEN. Where it is
- * refused memory it ends, and each call answers SJA_NO_MEMORY from then on. What the process says on its standard error
- * goes nowhere; `$SJA live` in a shell shows it. Where SIGPIPE has no handler sja_new has it ignored, so that a
- * session's end is told by SJA_BROKEN and doesn't end the program. SIGCHLD may be ignored: then a shell starts the
- * program, and says how it ended. A text that is null is one without room, and a plan that is null is none.
+ * The environment variable SJA names the program; without it it is `sja` on the path. A `./sja` of which nothing is
+ * proved yet builds a program with checks first, which takes a minute or more. What the process of the first session
+ * says on standard error is said on that of this program, if it is open: also that nothing is proved. What later ones
+ * and runs say there goes nowhere. Where a process is refused memory it ends, and each call answers SJA_NO_MEMORY from
+ * then on; if a check stops it, SJA_STOPPED. Where SIGPIPE has no handler sja_new has it ignored, so that a session's
+ * end is told by SJA_BROKEN and doesn't end the program. SIGCHLD may be ignored: then a shell starts the program, and
+ * says how it ended. A text that is null is one without room, and a plan that is null is none.
  */
 #define _POSIX_C_SOURCE 200809L
 
@@ -114,14 +115,15 @@ static int is_status_dropped(void)
 }
 
 /* Becomes a program with one word, at these two ends of pipes; where `told` isn't below 0 a shell that runs it, and
- * says its status there. What it says of errors goes nowhere: that is put in its place first, since it may have been
- * opened in the place of one of the others. */
-static void become(const char *program, const char *word, int input, int output, int told)
+ * says its status there. What it says of errors goes nowhere, if it isn't to be said: that is put in its place first,
+ * since it may have been opened in the place of one of the others. */
+static void become(const char *program, const char *word, int input, int output, int told, int is_said)
 {
     int none = open("/dev/null", O_WRONLY);
 
     signal(SIGCHLD, SIG_DFL);
-    dup2(none, 2);
+    if (!is_said || fcntl(2, F_GETFD) < 0 || none == 2)
+        dup2(none, 2);
     dup2(input, 0);
     dup2(output, 1);
     if (none > 2)
@@ -164,15 +166,17 @@ static ino_t pipe_of(int end)
 /* Starts the program with one word, its input and output at pipes. Whether that was done. */
 static int start(const char *word, struct process *process)
 {
+    static int is_first = 1;
     const char *named = getenv("SJA");
-    int in[2], out[2], status[2];
+    int in[2], out[2], status[2], is_said = is_first && strcmp(word, "live") == 0;
 
     ignore_broken_pipes();
     if (!make_pipes(in, out, status))
         return 0;
     process->number = fork();
     if (process->number == 0)
-        become(named != NULL ? named : "sja", word, in[0], out[1], status[1]);
+        become(named != NULL ? named : "sja", word, in[0], out[1], status[1], is_said);
+    is_first = is_first && !is_said;
     close(in[0]);
     close(out[1]);
     if (status[1] >= 0)
@@ -224,7 +228,7 @@ static int told_status(int told)
     return length > 0 ? atoi(said) : -1;
 }
 
-/* Waits for the end of a process. Its status, or -1 where it has none. */
+/* Waits for the end of a process. Its status, as a shell has it, or -1 where it has none. */
 static int finished(struct process *process)
 {
     int status, told = process->told >= 0 ? told_status(process->told) : -1;
@@ -233,7 +237,15 @@ static int finished(struct process *process)
     while (waitpid(process->number, &status, 0) < 0)
         if (errno != EINTR)
             return told;
-    return told >= 0 ? told : WIFEXITED(status) ? WEXITSTATUS(status) : -1;
+    if (told >= 0)
+        return told;
+    return WIFEXITED(status) ? WEXITSTATUS(status) : WIFSIGNALED(status) ? 128 + WTERMSIG(status) : -1;
+}
+
+/* What is answered of a process that ended with this status before it had answered. */
+static uint32_t broken(int status)
+{
+    return status == 128 + SIGILL ? SJA_STOPPED : SJA_BROKEN;
 }
 
 static int write_all(int to, const char *bytes, size_t length)
@@ -293,10 +305,11 @@ static sja_answer text_put(const struct text *text, char *into, size_t size)
 static int hung_up(sja *session)
 {
     if (session->process.to >= 0) {
-        int whole = is_whole(&session->process);
+        int whole = is_whole(&session->process), status;
 
         close_ends(&session->process);
-        session->lost = finished(&session->process) == 1 && whole ? SJA_NO_MEMORY : SJA_BROKEN;
+        status = finished(&session->process);
+        session->lost = !whole ? SJA_BROKEN : status == 1 ? SJA_NO_MEMORY : broken(status);
     }
     return 0;
 }
@@ -793,7 +806,7 @@ sja_answer sja_let_go(sja *session)
 /* What became of a run whose program ended with this status: 1 says that the bytes are no plan. */
 static uint32_t run_status(int status)
 {
-    return status == 0 ? SJA_DONE : status == 1 ? SJA_NO_PLAN : SJA_BROKEN;
+    return status == 0 ? SJA_DONE : status == 1 ? SJA_NO_PLAN : broken(status);
 }
 
 sja_answer sja_put_run(const char *plan, size_t length, char *text, size_t size)

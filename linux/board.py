@@ -27,7 +27,7 @@ sys.path.append(os.path.join(os.path.dirname(HERE), "python"))
 from sja import PLACES  # noqa: E402
 
 LIBRARY = os.path.join(os.path.dirname(HERE), "crates/sja_c/out/libsja.so")
-PROGRAM = os.path.join(os.path.dirname(HERE), "crates/sja/out/sja")
+PROGRAM = os.path.join(os.path.dirname(HERE), "tools/with_checks")  # it prints its path
 TEXT, ROOM = 40, 1 << 24
 KINDS = ("received", "sent", "error")
 STATES = "ERROR-ACTIVE ERROR-WARNING ERROR-PASSIVE BUS-OFF STOPPED SLEEPING".split()
@@ -58,8 +58,9 @@ def _built(tree, driver, board):
         if file:
             words = [option, os.path.abspath(file), *words]
     library = os.environ.get("SJA_LIBRARY", LIBRARY if os.path.exists(LIBRARY) else "")
-    if os.path.exists(PROGRAM):
-        os.environ.setdefault("SJA", PROGRAM)
+    if not library and "SJA" not in os.environ and os.path.exists(PROGRAM):
+        told = subprocess.run([PROGRAM], stdout=subprocess.PIPE, text=True, check=False)
+        os.environ["SJA"] = told.stdout.strip() or "sja"
     key = hashlib.sha256(repr((HERE, words, library)).encode()).hexdigest()[:16]
     made = os.path.join(cache, "sja", f"driver-{key}.so")
     os.makedirs(os.path.dirname(made), exist_ok=True)

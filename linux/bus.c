@@ -41,7 +41,7 @@ static int begin_session(unsigned nodes, uint32_t bits)
 
     bus.fault = told.status;
     return told.status == SJA_DONE ? 0 : told.status == SJA_NO_MEMORY ? -ENOMEM
-        : told.status == SJA_BROKEN ? -EPIPE : -EINVAL;
+        : told.status == SJA_BROKEN || told.status == SJA_STOPPED ? -EPIPE : -EINVAL;
 }
 
 int bus_begin(unsigned nodes, uint32_t bits)

@@ -7,8 +7,8 @@
 
 A session is one of a shared object made of the library, where there is one, and else a process `sja live` of its own.
 The environment variable SJA_LIBRARY names the shared object (checks/c_library makes one), or nothing for a process;
-without it the libsja.so beside this file is taken, where there is one. SJA names the program, which has to be the
-proved one, or a `./sja` that has it. Each call that isn't done raises SjaError, with its status. Standard library
+without it the libsja.so beside this file is taken, where there is one. SJA names the program; a `./sja` that isn't
+proved says so of the first session. Each call that isn't done raises SjaError, with its status. Standard library
 only."""
 
 import contextlib
@@ -16,12 +16,13 @@ import ctypes
 import errno
 import operator
 import os
+import signal
 import subprocess
 
 BESIDE = os.path.join(os.path.dirname(os.path.realpath(__file__)), "libsja.so")
 
 STATUSES = """DONE NO_HANDLE ENDED NO_VERSION NO_BITS NO_NODES NO_ADDRESS NO_BYTE NO_NODE NO_BIT PAST STEPS_USED
-TURNS_USED STRIKES_USED NO_PLAN NO_DOCUMENT NO_ROOM NO_MEMORY BROKEN NO_PLACE ENDLESS""".split()
+TURNS_USED STRIKES_USED NO_PLAN NO_DOCUMENT NO_ROOM NO_MEMORY BROKEN NO_PLACE ENDLESS STOPPED""".split()
 
 LINES = {"no VERSION": "NO_VERSION", "no BITS": "NO_BITS", "no NODES": "NO_NODES", "no NODE": "NO_NODE",
          "no ADDRESS": "NO_ADDRESS", "no BYTE": "NO_BYTE", "no BIT": "PAST", "full STEPS": "STEPS_USED",
@@ -132,7 +133,7 @@ class _Process:
         self.bits, self.nodes, self.texts, self.rose = bits, nodes, {}, 0
         pipe = subprocess.PIPE
         try:
-            self.process = subprocess.Popen([program, "live"], stdin=pipe, stdout=pipe)
+            self.process = subprocess.Popen([program, "live"], stdin=pipe, stdout=pipe, env=_quiet())
         except OSError:
             raise SjaError("BROKEN") from None
         try:
@@ -145,7 +146,8 @@ class _Process:
         """What is answered where the process answers no more: it ended with status 1 where it was refused memory."""
         with contextlib.suppress(OSError):
             self.process.stdin.close()
-        return "NO_MEMORY" if self.process.wait() == 1 else "BROKEN"
+        status = self.process.wait()
+        return "NO_MEMORY" if status == 1 else _broken(status)
 
     def _say(self, line):
         try:
@@ -297,6 +299,20 @@ def _program():
     return os.environ.get("SJA", "sja")
 
 
+_begun = []
+
+
+def _quiet():
+    """The environment of a process: only the first one says that its program isn't proved."""
+    _begun.append(True)
+    return {**os.environ, "SJA_QUIET": "1"} if len(_begun) > 1 else None
+
+
+def _broken(status):
+    """What is answered of a process that ended with this status: a check stopped it, or something else."""
+    return "STOPPED" if status in (-signal.SIGILL, 128 + signal.SIGILL) else "BROKEN"
+
+
 def run_plan(plan):
     """Runs a plan, a text as `sja run` takes it. Its report."""
     document, library = plan.encode(), _library()
@@ -310,7 +326,7 @@ def run_plan(plan):
         raise SjaError("BROKEN") from None
     # Where SIGCHLD is ignored there is no status, and 0 stands for it: a run that is refused prints no report.
     if ran.returncode or not ran.stdout:
-        raise SjaError("NO_PLAN" if ran.returncode in (0, 1) else "BROKEN")
+        raise SjaError("NO_PLAN" if ran.returncode in (0, 1) else _broken(ran.returncode))
     return ran.stdout.decode()
 
 

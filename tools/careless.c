@@ -1,7 +1,7 @@
 /* Calls of a careless program, each with the status that it has to have: places and texts that are null, texts of a
  * session without an end, and bits of one, more than a line of the pipe has room for; and, with the word `pipe`, of one
- * over c/sja_pipe.c, SIGCHLD that is ignored and descriptors that were closed. Prints those that have another; the
- * status is 1 then. SJA names the program of the sessions. `checks/c_library` runs it. */
+ * over c/sja_pipe.c, SIGCHLD that is ignored, descriptors that were closed, and a program that a check stops. Prints
+ * those that have another; the status is 1 then. SJA names the program of the sessions. `checks/c_library` runs it. */
 #define _GNU_SOURCE
 
 #include <fcntl.h>
@@ -174,6 +174,33 @@ static void try_closed(void)
         close(other);
 }
 
+/* A program that answers one line, and that a check stops behind the next, as one with checks is stopped. */
+static void try_stopped(void)
+{
+    static const char stopped[] = "#!/bin/sh\nread -r line\necho ok\nread -r line\nkill -ILL $$\n";
+    const char *program = getenv("SJA");
+    char name[] = "/tmp/careless.XXXXXX";
+    sja *session = NULL;
+    int end = mkstemp(name);
+
+    if (end < 0 || write(end, stopped, sizeof stopped - 1) < 0 || fchmod(end, 0700) != 0 || close(end) != 0)
+        has_status("no program to stop", (sja_answer){ .status = SJA_BROKEN }, SJA_DONE);
+    setenv("SJA", name, 1);
+    for (int ignored = 0; ignored < 2; ignored++) {
+        if (ignored)
+            signal(SIGCHLD, SIG_IGN);
+        session = opened("a session that a check will stop");
+        has_status("a read that a check stops", sja_read(session, 0, 2), SJA_STOPPED);
+        has_status("the next one", sja_read(session, 0, 2), SJA_STOPPED);
+        has_status("its report", sja_report(session, text, ROOM), SJA_STOPPED);
+        sja_free(session);
+        has_status("a run that a check stops", sja_run_plan("1\n2\n", 4, text, ROOM), SJA_STOPPED);
+    }
+    signal(SIGCHLD, SIG_DFL);
+    unlink(name);
+    setenv("SJA", program != NULL ? program : "sja", 1);
+}
+
 int main(int count, char **words)
 {
     write_plan();
@@ -182,6 +209,7 @@ int main(int count, char **words)
     try_many_bits();
     if (count == 2 && strcmp(words[1], "pipe") == 0) {
         try_ignored();
+        try_stopped();
         try_closed();
     }
     printf("%d rows, %d bad\n", rows, bad);

@@ -1,20 +1,9 @@
-"""What the program's help names: its commands, and the options and arguments of each. checks/man and checks/completions
-read it. SJA names another program; without it ./prove makes that of the sources."""
+"""What the program's help names: its commands, and the options and arguments of each. tools/help, checks/man and
+checks/completions read it. SJA names another program than that of tools/with_checks."""
 
-import os
 import re
 import subprocess
 import sys
-
-TOP = os.path.dirname(os.path.dirname(os.path.abspath(__file__)))
-
-
-def program():
-    """The path of the program, which is there."""
-    path = os.environ.get("SJA", f"{TOP}/crates/sja/out/sja")
-    if "SJA" not in os.environ and subprocess.run([f"{TOP}/prove"]).returncode:
-        sys.exit(1)
-    return path if os.access(path, os.X_OK) else sys.exit(f"no program {path}")
 
 
 def told(path, *words):

@@ -7,14 +7,15 @@ import time
 import zlib
 from base64 import urlsafe_b64encode
 
+from tried import program
+
 TOP = os.path.dirname(os.path.dirname(os.path.abspath(__file__)))
-PROGRAM = os.environ.get("SJA", os.path.join(TOP, "sja"))
 SETTLED = 'document.querySelector("main").getAttribute("aria-busy") === "false"'
 
 
 def sja(words, plan):
     """The status, the text and what is told of the program for these words over a plan."""
-    done = subprocess.run([PROGRAM, *words], input=plan, capture_output=True, text=True, check=False)
+    done = subprocess.run([program(), *words], input=plan, capture_output=True, text=True, check=False)
     return done.returncode, done.stdout, done.stderr
 
 

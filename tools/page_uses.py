@@ -4,10 +4,11 @@ import subprocess
 import time
 
 from page_hands import (
-    PROGRAM, TOP, click_bit, examples, link_of, long_plan, places, press, same, show_example, shown, sja, text_of,
+    TOP, click_bit, examples, link_of, long_plan, places, press, same, show_example, shown, sja, text_of,
     type_over, wait_settled,
 )
 from chromium import Tab
+from tried import program
 
 EDITS = int(os.environ.get("EDITS", "1000"))
 LINE_TOLD = 'document.getElementById("told").textContent.includes("interrupt line")'
@@ -88,7 +89,7 @@ def link(tab, *_):
 def link_of_a_test(page):
     """The link that the script for tests writes of a plan with a mistake."""
     done = subprocess.run(["./plans_hold", "mistake"], cwd=f"{TOP}/examples/ci", stdout=subprocess.PIPE, text=True,
-                          env={**os.environ, "SJA": PROGRAM, "SJA_PAGE": page}, check=False)
+                          env={**os.environ, "SJA": program(), "SJA_PAGE": page}, check=False)
     return next(word for line in done.stdout.splitlines() for word in line.split() if "#plan=" in word)
 
 

@@ -5,6 +5,7 @@ to be the answer that stands beside it, over the library and over a process alik
 import os
 import signal
 import sys
+import tempfile
 
 sys.dont_write_bytecode = True
 sys.path.insert(0, f"{os.path.dirname(os.path.dirname(os.path.abspath(__file__)))}/python")
@@ -30,6 +31,21 @@ def ignoring(call):
         return call()
     finally:
         signal.signal(signal.SIGCHLD, before)
+
+
+def stopped(call):
+    """What a call gives over a program that answers one line, and that a check stops behind the next."""
+    before = {name: os.environ.get(name) for name in ("SJA", "SJA_LIBRARY")}
+    with tempfile.TemporaryDirectory() as folder:
+        with open(f"{folder}/sja", "w", encoding="ascii") as file:
+            file.write("#!/bin/sh\nread -r line\necho ok\nread -r line\nkill -ILL $$\n")
+        os.chmod(f"{folder}/sja", 0o755)
+        os.environ.update(SJA=f"{folder}/sja", SJA_LIBRARY="")
+        try:
+            return call()
+        finally:
+            for name, value in before.items():
+                os.environ.pop(name) if value is None else os.environ.update({name: value})
 
 
 def openings():
@@ -176,6 +192,8 @@ def rows():
     for name in "plan", "report":
         yield f"{name}, closed", getattr(bus, name), "NO_HANDLE"
     yield "close once more", bus.close, None
+    yield "a session that a check stops", lambda: stopped(lambda: Session(3, 1000, 2).read(0, 2)), "STOPPED"
+    yield "a run that a check stops", lambda: stopped(lambda: run_plan("1\n2\n")), "STOPPED"
     yield "a process at the end", has_process, False
 
 
