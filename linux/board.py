@@ -24,7 +24,7 @@ import sys
 
 HERE = os.path.dirname(os.path.realpath(__file__))
 sys.path.append(os.path.join(os.path.dirname(HERE), "python"))
-from sja import PLACES  # noqa: E402
+from sja import PLACES, parts_of  # noqa: E402
 
 LIBRARY = os.path.join(os.path.dirname(HERE), "crates/sja_c/out/libsja.so")
 PROGRAM = os.path.join(os.path.dirname(HERE), "tools/with_checks")  # it prints its path
@@ -76,18 +76,24 @@ def _built(tree, driver, board):
 
 
 class Board:
-    """A bus of one to eight cards, with the driver of a tree of Linux or one of your own."""
+    """A bus of one to eight cards, with the driver of a tree of Linux or one of your own.
+
+    Time between accesses: each takes `access_bits`, a whole number or "A/B", and a handler is called `latency` bits
+    after its line rose, or with `edges` for each rise alone. While a device waits in an access act, by `others`: 0
+    nobody, 1 the other devices, 2 its own handler too, 3 its own queue too, as on another processor; 4
+    all that it has, as on several."""
 
     _taken = False
 
-    def __init__(self, nodes, driver, bits=0, own_driver=None, own_board=None):
+    def __init__(self, nodes, driver, bits=0, own_driver=None, own_board=None, access_bits=0, latency=0, others=0,
+                 edges=False):
         if Board._taken:
             raise BoardError(16, "there is one Board at a time in a process")
         path = driver if os.path.isfile(driver) else _built(driver, own_driver, own_board)
         self._calls = ctypes.CDLL(path)
         for name in ("bus_run", "bus_fault", "bus_missed"):
             getattr(self._calls, name).restype = ctypes.c_uint32
-        for name in ("bus_now", "bus_frames"):
+        for name in ("bus_now", "bus_frames", "bus_accesses"):
             getattr(self._calls, name).restype = ctypes.c_uint64
         for name in ("bus_plan", "bus_report"):
             getattr(self._calls, name).restype = ctypes.c_int64
@@ -97,6 +103,14 @@ class Board:
         self._calls.bus_frame.restype = ctypes.POINTER(_Frame)
         self._calls.bus_strike.argtypes = [ctypes.c_uint, ctypes.c_uint64]
         self._calls.bus_frame.argtypes = [ctypes.c_uint, ctypes.c_size_t]
+        self._calls.bus_late.argtypes = [ctypes.c_uint64, ctypes.c_uint32]
+        if others not in range(5):
+            raise ValueError(f"others is 0 to 4, and not {others!r}")
+        self._calls.bus_on_time()
+        self._calls.bus_access_bits(*parts_of(access_bits))
+        self._calls.bus_latency(latency)
+        self._calls.bus_others(others)
+        self._calls.bus_edges(int(edges))
         self.nodes = nodes
         error = self._calls.bus_begin(nodes, bits)
         self._done(error, "there is neither a library nor a program" if error == -errno.EPIPE else "bus_begin")
@@ -154,6 +168,19 @@ class Board:
         if self._calls.bus_missed() > missed:
             raise BoardError(errno.EINVAL, "a frame ended without the place at which it was to be struck")
         return ran
+
+    def late(self, access, bits):
+        """Lets so many bits run before one access of the drivers: they count from 0 as the bus begins."""
+        self._calls.bus_late(access, bits)
+
+    def on_time(self):
+        """No access takes time from now on, and no handler comes late."""
+        self._calls.bus_on_time()
+
+    @property
+    def accesses(self):
+        """How many accesses the drivers made."""
+        return self._calls.bus_accesses()
 
     def hold(self, node, is_held=True):
         """Holds a device's interrupts back, or lets them go: for a handler that comes late."""

@@ -102,10 +102,39 @@ def what_goes_down_comes_up():
                 and bus.received(2) == FRAMES[:2] and bus.bugs() == 0 and "can1: setting BTR0" in bus.dmesg())
 
 
+def an_access_takes_its_time():
+    with Board(nodes=1, driver=TREE, access_bits="3/2") as bus:
+        return bus.accesses > 0 and bus.now() == bus.accesses * 3 // 2
+
+
+def one_access_is_late():
+    took = []
+    for late in (0, 40):
+        with Board(nodes=1, driver=TREE) as bus:
+            bus.link(0, bitrate=500000)
+            bus.late(bus.accesses + 5, late)
+            bus.up(0)
+            took.append(bus.now())
+    return took[1] == took[0] + 40
+
+
+def frames_come_through_whoever_acts():
+    for others in range(4):
+        with Board(nodes=3, driver=TREE, access_bits="3/2", latency=5, others=others, edges=others == 2) as bus:
+            up(bus)
+            for node, frame in enumerate(FRAMES):
+                bus.send(node, frame)
+            bus.run(1000)
+            if [bus.received(0), bus.received(1), bus.received(2)] != [FRAMES[1:], FRAMES[::2], FRAMES[:2]]:
+                return False
+    return True
+
+
 bad = 0
 for test in (a_place_is_that_of_the_frame_that_is_named, a_place_waits_for_its_frame,
              a_sof_is_struck_by_its_bit_and_by_its_place, a_place_that_its_frame_lacks_is_told,
-             a_bus_goes_on_or_has_a_plan, what_cannot_be_is_refused, what_goes_down_comes_up):
+             a_bus_goes_on_or_has_a_plan, what_cannot_be_is_refused, what_goes_down_comes_up,
+             an_access_takes_its_time, one_access_is_late, frames_come_through_whoever_acts):
     held = test()
     bad += not held
     print(test.__name__.replace("_", " "), "" if held else ": WRONG", sep="")

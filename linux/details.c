@@ -8,6 +8,7 @@
 
 #include "bus.h"
 #include "stack.h"
+#include "turns.h"
 
 enum { ROOM = 4096 };
 
@@ -91,9 +92,11 @@ int bus_details(unsigned node, struct bus_details *details)
         return -ENODEV;
     skb = alloc_skb(ROOM, GFP_KERNEL);
     more = alloc_skb(ROOM, GFP_KERNEL);
+    turns_enter(node);
     error = dev->rtnl_link_ops->fill_info(skb, dev);
     if (error == 0)
         error = dev->rtnl_link_ops->fill_xstats(more, dev);
+    turns_leave();
     if (error == 0)
         error = shim_parse(data, IFLA_CAN_MAX, skb->data, (int)skb->len);
     if (error == 0)

@@ -9,6 +9,7 @@
 
 #include "bus.h"
 #include "stack.h"
+#include "turns.h"
 
 enum { WORD = 32, ROOM = 4096 };
 
@@ -142,7 +143,9 @@ int bus_link(unsigned node, const char *words)
         return error;
     skb = alloc_skb(ROOM, GFP_KERNEL);
     put_change(skb, &change);
+    turns_enter(node);
     error = changed(dev, skb);
+    turns_leave();
     kfree_skb(skb);
     if (error == 0 && change.has_timing)
         bit_rate = ((struct can_priv *)netdev_priv(dev))->bittiming.bitrate;

@@ -6,24 +6,25 @@
 
 #include "bus.h"
 #include "stack.h"
+#include "turns.h"
 
-/* The frames of one node, in the order in which its driver handed them over. */
-static struct {
+/* The frames of one node, in turn: those that its driver handed over, and those that were handed to it. */
+static struct frames {
     struct bus_frame *frames;
     size_t count, room;
-} got[BUS_NODES];
+} got[BUS_NODES], asked[BUS_NODES];
 
 /* The socket that all frames are sent by: a frame that comes back with it is one of its own. */
 static struct sock sender = { .sk_refcnt = { 1 } };
 
-static struct bus_frame *new_frame(unsigned node)
+static struct bus_frame *new_frame(struct frames *of)
 {
-    if (got[node].count == got[node].room) {
-        got[node].room = 2 * got[node].room + 16;
-        got[node].frames = realloc(got[node].frames, got[node].room * sizeof *got[node].frames);
-        assert(got[node].frames != NULL);
+    if (of->count == of->room) {
+        of->room = 2 * of->room + 16;
+        of->frames = realloc(of->frames, of->room * sizeof *of->frames);
+        assert(of->frames != NULL);
     }
-    return &got[node].frames[got[node].count++];
+    return &of->frames[of->count++];
 }
 
 void stack_receive(struct sk_buff *skb)
@@ -34,7 +35,7 @@ void stack_receive(struct sk_buff *skb)
     if (node < 0 || skb->protocol != htons(ETH_P_CAN) || !can_is_can_skb(skb)) {
         shim_log("bug", skb->dev->name, "BUG: the driver hands over what is no CAN frame\n");
     } else {
-        struct bus_frame *kept = new_frame((unsigned)node);
+        struct bus_frame *kept = new_frame(&got[node]);
 
         *kept = (struct bus_frame){ .bit = bus_now(), .id = frame->can_id, .length = frame->len,
                                     .dlc = frame->len8_dlc };
@@ -47,8 +48,7 @@ void stack_receive(struct sk_buff *skb)
 void stack_forget(void)
 {
     for (unsigned node = 0; node < BUS_NODES; node++)
-        free(got[node].frames);
-    memset(got, 0, sizeof got);
+        got[node].count = asked[node].count = 0;
 }
 
 size_t bus_frames(unsigned node)
@@ -59,6 +59,16 @@ size_t bus_frames(unsigned node)
 const struct bus_frame *bus_frame(unsigned node, size_t number)
 {
     return number < bus_frames(node) ? &got[node].frames[number] : NULL;
+}
+
+size_t bus_asked(unsigned node)
+{
+    return node < BUS_NODES ? asked[node].count : 0;
+}
+
+const struct bus_frame *bus_asked_frame(unsigned node, size_t number)
+{
+    return number < bus_asked(node) ? &asked[node].frames[number] : NULL;
 }
 
 /* As can_send: the frame in a buffer with room before it, where older kernels keep what is CAN's of it, and its own
@@ -91,19 +101,38 @@ int bus_send(unsigned node, const char *text)
     if (error != 0)
         return error;
     skb = buffer_of(dev, &frame);
-    return skb == NULL ? -ENOMEM : dev_queue_xmit(skb);
+    if (skb == NULL)
+        return -ENOMEM;
+    frame.bit = bus_now();
+    *new_frame(&asked[node]) = frame;
+    error = dev_queue_xmit(skb);
+    if (error != 0)
+        asked[node].count--;
+    return error;
 }
 
 int bus_up(unsigned node)
 {
     struct net_device *dev = bus_device(node);
+    int error;
 
-    return dev == NULL ? -ENODEV : dev_open(dev);
+    if (dev == NULL)
+        return -ENODEV;
+    turns_enter(node);
+    error = dev_open(dev);
+    turns_leave();
+    return error;
 }
 
 int bus_down(unsigned node)
 {
     struct net_device *dev = bus_device(node);
+    int error;
 
-    return dev == NULL ? -ENODEV : dev_close(dev);
+    if (dev == NULL)
+        return -ENODEV;
+    turns_enter(node);
+    error = dev_close(dev);
+    turns_leave();
+    return error;
 }

@@ -3,6 +3,8 @@
 #ifndef LINUX_STACK_H
 #define LINUX_STACK_H
 
+#include <stdint.h>
+
 struct sk_buff;
 struct net_device;
 
@@ -11,11 +13,12 @@ void stack_receive(struct sk_buff *skb);
 /* The device of a node, and the node of a device, which is -1 where it isn't one of the bus. */
 struct net_device *bus_device(unsigned node);
 int bus_node(const struct net_device *dev);
+/* The node in whose device's memory a place is, or -1. */
+int bus_node_at(const void *place);
 /* Drops all that was received. */
 void stack_forget(void);
-/* Strikes the next bit of each node that is at its place. How many strikes wait for theirs still. */
-unsigned seek_strike(void);
-/* No strike waits: a bus ends. */
-void seek_forget(void);
+/* Strikes the next bit of each node that is at its place. How many bits may run then before the next look: at most so
+ * many. */
+uint32_t seek_strike(uint32_t most);
 
 #endif

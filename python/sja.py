@@ -330,11 +330,22 @@ def run_plan(plan):
     return ran.stdout.decode()
 
 
+def parts_of(access_bits):
+    """The parts of a bit that an access takes, and how many parts a bit has: of 2, "2" or "3/2"."""
+    parts, _, whole = str(access_bits).partition("/")
+    if not (parts.isdecimal() and (whole or "1").isdecimal() and int(whole or 1)):
+        raise ValueError(f"access_bits is a whole number or A/B, and not {access_bits!r}")
+    return int(parts), int(whole or 1)
+
+
 class Session:
     """A bus of one to eight controllers. The calls are those of c/sja.h. In version 3 with 0 bits it goes on without an
-    end, and has neither plan nor report."""
+    end, and has neither plan nor report. With `access_bits`, a whole number or "A/B", accesses take time: before access
+    i of a node, from 0, floor((i+1)A/B) less floor(iA/B) bits run."""
 
-    def __init__(self, version, bits, nodes):
+    def __init__(self, version, bits, nodes, access_bits=0):
+        self._parts, self._whole = parts_of(access_bits)
+        self._late, self._made, self._nodes = {}, [0] * 8, _taken(nodes)
         library = _library()
         made = _Library if library else _Process
         self._session = made(library or _program(), *map(_taken, (version, bits, nodes)))
@@ -347,12 +358,36 @@ class Session:
     def _call(self, name, *numbers):
         return self._open().call(name, *map(_taken, numbers))
 
+    def late(self, access, bits):
+        """Lets so many bits run before this access beside those of `access_bits`: accesses of all nodes count from 0."""
+        self._late[operator.index(access)] = operator.index(bits)
+
+    @property
+    def accesses(self):
+        """How many accesses were made."""
+        return sum(self._made)
+
+    def _pass(self, node, *bytes_):
+        """The next access of a node takes its time, but for one that is refused for its numbers. `rose` stays."""
+        if not (_is_number(node, self._nodes - 1) and all(_is_number(byte, 255) for byte in bytes_)):
+            return
+        before = self._made[node]
+        bits = (before + 1) * self._parts // self._whole - before * self._parts // self._whole
+        bits += self._late.get(self.accesses, 0)
+        rose = self._open().rose
+        if bits:
+            self._call("bits", bits, 0)
+            self._session.rose = rose
+        self._made[node] += 1
+
     def read(self, node, address):
         """Reads an address of a node."""
+        self._pass(node, address)
         return self._call("read", node, address)
 
     def write(self, node, address, value):
         """Writes a byte to an address of a node."""
+        self._pass(node, address, value)
         self._call("write", node, address, value)
 
     def run(self, count, watch=0):

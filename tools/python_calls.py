@@ -60,6 +60,19 @@ def openings():
         yield f"a process of Session{numbers}", has_process, False
 
 
+def times():
+    """Accesses that take time: how many bits run before each, of node 0 and of node 1, and before one that is late."""
+    with Session(3, 1000, 2, access_bits="3/2") as bus:
+        bus.late(5, 10)
+        for wanted, node in [(1, 0), (2, 0), (1, 1), (1, 0), (2, 0), (12, 1)]:
+            before = bus.now()
+            bus.read(node, 2)
+            yield f"access {bus.accesses - 1} takes bits", lambda took=bus.now() - before: took, wanted
+        yield "a read of no node", lambda: bus.read(2, 2), "NO_NODE"
+        yield "bits after it", bus.now, 19
+        yield "accesses", lambda: bus.accesses, 6
+
+
 def has_process():
     """Whether this program has another one that it has to wait for."""
     try:
@@ -163,6 +176,7 @@ def restarts(bus, times):
 def rows():
     """What is called, and what it has to answer."""
     yield from openings()
+    yield from times()
     for told in (places, rises):
         framed = Session(3, 1000, 2)
         yield from told(framed)

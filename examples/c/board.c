@@ -3,6 +3,7 @@
 
 #include <stdio.h>
 #include <stdlib.h>
+#include <string.h>
 
 #include "registers.h"
 
@@ -15,13 +16,58 @@ uint64_t board_done(const char *call, sja_answer answer)
     return answer.value;
 }
 
+enum { NODES = 8 };
+
+/* The time between accesses, and how many were made. */
+static struct {
+    uint32_t parts, whole, late;
+    uint64_t late_access, accesses, of_node[NODES];
+} axis = { .whole = 1 };
+
+void board_begin(void)
+{
+    memset(&axis, 0, sizeof axis);
+    axis.whole = 1;
+}
+
+void board_access_bits(uint32_t parts, uint32_t whole)
+{
+    axis.parts = parts;
+    axis.whole = whole;
+}
+
+void board_late(uint64_t access, uint32_t bits)
+{
+    axis.late_access = access;
+    axis.late = bits;
+}
+
+uint64_t board_accesses(void)
+{
+    return axis.accesses;
+}
+
+/* An access takes its time. Parts of a bit add up. */
+static void pass(const struct board *board)
+{
+    uint64_t before = axis.of_node[board->node % NODES]++;
+    uint64_t bits = (before + 1) * axis.parts / axis.whole - before * axis.parts / axis.whole;
+
+    if (axis.accesses++ == axis.late_access)
+        bits += axis.late;
+    if (bits > 0)
+        board_wait(board, (uint32_t)bits);
+}
+
 uint8_t board_read(const struct board *board, uint8_t address)
 {
+    pass(board);
     return (uint8_t)board_done("read", sja_read(board->session, board->node, address));
 }
 
 void board_write(const struct board *board, uint8_t address, uint8_t value)
 {
+    pass(board);
     board_done("write", sja_write(board->session, board->node, address, value));
 }
 

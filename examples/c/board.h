@@ -37,6 +37,15 @@ uint64_t board_done(const char *call, sja_answer answer);
 uint8_t board_read(const struct board *board, uint8_t address);
 void board_write(const struct board *board, uint8_t address, uint8_t value);
 
+/* Time between accesses, of all boards, which is none at first. Before access i of a node, from 0, run
+ * floor((i+1)A/B) less floor(iA/B) bits, of A parts in B of a bit; before one access of the run, from 0, run so many
+ * bits more. board_begin says that a run begins: no access was made, and none takes time. */
+void board_begin(void);
+void board_access_bits(uint32_t parts, uint32_t whole);
+void board_late(uint64_t access, uint32_t bits);
+/* How many accesses were made in the run. */
+uint64_t board_accesses(void);
+
 /* Runs so many bits. */
 void board_wait(const struct board *board, uint32_t bits);
 

@@ -53,7 +53,14 @@ int interrupts_send(struct interrupts *driver, const struct message *message, in
     if (driver->busy || driver->off)
         return 0;
     board_put(&driver->board, message);
+#ifdef ENABLES_LATE
+    board_write(&driver->board, IER, ENABLED & ~IR_TI);
+#endif
     board_write(&driver->board, CMR, once ? CMR_TR | CMR_AT : CMR_TR);
+#ifdef ENABLES_LATE
+    /* The first planted race: a message that has ended before is never told of. */
+    board_write(&driver->board, IER, ENABLED);
+#endif
     driver->busy = 1;
     driver->outcome = PENDING;
     return 1;
@@ -72,11 +79,15 @@ int interrupts_receive(struct interrupts *driver, struct message *message)
 
 /* The message that was under way has ended. TI comes where it was sent, and under single shot where it wasn't, too: TCS
  * tells (data sheet, 6.4.4 and 6.4.5). */
-static void ended(struct interrupts *driver)
+static void ended(struct interrupts *driver, uint8_t before)
 {
+    (void)before;
 #ifdef TI_IS_SENT
     /* The second planted mistake: TI is taken for "sent". */
     driver->outcome = SENT;
+#elif defined STATUS_FIRST
+    /* The second planted race: the status is that of before the message had ended. */
+    driver->outcome = before & SR_TCS ? SENT : NOT_SENT;
 #else
     driver->outcome = board_read(&driver->board, SR) & SR_TCS ? SENT : NOT_SENT;
 #endif
@@ -121,10 +132,15 @@ static void changed(struct interrupts *driver)
 /* What the interrupt line asks for. IR is read once, and each of its bits is done. */
 static void one_interrupt(struct interrupts *driver)
 {
-    uint8_t pending = board_read(&driver->board, IR);
+    uint8_t before = 0;
+    uint8_t pending;
 
+#ifdef STATUS_FIRST
+    before = board_read(&driver->board, SR);
+#endif
+    pending = board_read(&driver->board, IR);
     if (pending & IR_TI)
-        ended(driver);
+        ended(driver, before);
     if (pending & IR_RI)
         received(driver);
     if (pending & IR_DOI) {

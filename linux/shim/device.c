@@ -4,6 +4,8 @@
 
 #include <stdio.h>
 
+#include "../turns.h"
+
 static int devices;
 
 struct net_device *alloc_netdev_mqs(int size, const char *name, unsigned char type, void (*setup)(struct net_device *),
@@ -17,6 +19,7 @@ struct net_device *alloc_netdev_mqs(int size, const char *name, unsigned char ty
         return NULL;
     memset(dev, 0, whole);
     snprintf(dev->name, IFNAMSIZ, "%s", name);
+    dev->size = whole;
     dev->stopped = true;
     dev->has_carrier = true;
     setup(dev);
@@ -87,6 +90,7 @@ int dev_close(struct net_device *dev)
     if (!netif_running(dev))
         return 0;
     shim_drop_waiting(dev);
+    turns_until_false(&dev->is_sending);
     error = dev->netdev_ops->ndo_stop != NULL ? dev->netdev_ops->ndo_stop(dev) : 0;
     dev->flags &= ~(unsigned)IFF_UP;
     shim_drop_waiting(dev);

@@ -40,6 +40,7 @@ struct net_device_ops {
 struct net_device {
     char name[IFNAMSIZ];
     int ifindex, irq;
+    size_t size;            /* of all of it, with its priv */
     unsigned int mtu, min_mtu, max_mtu, flags, tx_queue_len;
     unsigned short type, hard_header_len;
     unsigned char addr_len;
@@ -90,6 +91,8 @@ int netif_rx(struct sk_buff *skb);
 int dev_queue_xmit(struct sk_buff *skb);
 /* Hands over what waits, as far as the driver takes it. Whether it took any. */
 bool shim_send_waiting(struct net_device *dev);
+/* Whether there is something that the driver takes. */
+bool shim_may_send(const struct net_device *dev);
 void shim_drop_waiting(struct net_device *dev);
 bool netif_running(const struct net_device *dev);
 #define netif_device_present(dev) ((void)(dev), true)

@@ -2,6 +2,8 @@
 /* Interrupts: who handles a line, and what becomes of one that no one takes. */
 #include "shim.h"
 
+#include "../turns.h"
+
 enum { ACTIONS = 16, LINES = 64, NOBODY = 100 };
 
 struct action {
@@ -13,6 +15,7 @@ struct action {
 
 static struct action actions[ACTIONS];
 static unsigned unhandled[LINES], disabled[LINES];
+static bool handled[LINES];     /* its handlers are called */
 
 static struct action *free_action(void)
 {
@@ -46,15 +49,22 @@ const void *free_irq(unsigned int irq, void *id)
     for (unsigned i = 0; i < ACTIONS; i++)
         if (actions[i].handler != NULL && actions[i].irq == irq && actions[i].id == id) {
             actions[i] = (struct action){ 0 };
+            turns_until_false(&handled[irq]);
             return "";
         }
     shim_log("bug", NULL, "BUG: Trying to free already-free IRQ %u\n", irq);
     return NULL;
 }
 
-void disable_irq(unsigned int irq)
+void disable_irq_nosync(unsigned int irq)
 {
     disabled[irq]++;
+}
+
+void disable_irq(unsigned int irq)
+{
+    disable_irq_nosync(irq);
+    turns_until_false(&handled[irq]);
 }
 
 void enable_irq(unsigned int irq)
@@ -82,10 +92,16 @@ static void count_unhandled(unsigned int irq)
     disabled[irq]++;
 }
 
+void shim_leave_interrupt(unsigned int irq)
+{
+    handled[irq] = false;
+}
+
 bool shim_interrupt(unsigned int irq)
 {
     bool taken = false, wakes[ACTIONS] = { false };
 
+    handled[irq] = true;
     for (unsigned i = 0; i < ACTIONS; i++)
         if (actions[i].handler != NULL && actions[i].irq == irq) {
             irqreturn_t told = actions[i].handler((int)irq, actions[i].id);
@@ -96,6 +112,7 @@ bool shim_interrupt(unsigned int irq)
     for (unsigned i = 0; i < ACTIONS; i++)
         if (wakes[i] && actions[i].thread != NULL)
             actions[i].thread((int)irq, actions[i].id);
+    handled[irq] = false;
     if (taken)
         unhandled[irq] = 0;
     else
@@ -108,4 +125,5 @@ void shim_forget_interrupts(void)
     memset(actions, 0, sizeof actions);
     memset(unhandled, 0, sizeof unhandled);
     memset(disabled, 0, sizeof disabled);
+    memset(handled, 0, sizeof handled);
 }

@@ -1,13 +1,22 @@
 /* SPDX-License-Identifier: GPL-2.0-only */
-/* Locks and memory. Stands for linux/spinlock.h, mutex.h and slab.h. There is one processor and one thread, so a lock
- * that is taken twice would never be had: that is told as a bug, and goes on. */
+/* Locks and memory. Stands for linux/spinlock.h, mutex.h and slab.h. A lock that is held makes another one wait for it.
+ * Where it would never be had, as one that is taken twice, that is told as a bug, and goes on. */
 #ifndef SHIM_LOCK_H
 #define SHIM_LOCK_H
 
 #include "log.h"
 #include "types.h"
 
-typedef struct { bool held; } spinlock_t;
+struct strand;
+
+typedef struct { bool held; const struct strand *holder; } spinlock_t;
+
+/* Waits until a lock is let go. Whether it was. */
+bool shim_wait_for(const spinlock_t *lock);
+/* From now on interrupts of this processor are off, by one lock more, or by one less. */
+void shim_irqs_off(void);
+void shim_irqs_on(void);
+const struct strand *shim_strand(void);
 
 static inline void spin_lock_init(spinlock_t *lock)
 {
@@ -16,9 +25,10 @@ static inline void spin_lock_init(spinlock_t *lock)
 
 static inline void spin_lock(spinlock_t *lock)
 {
-    if (lock->held)
+    if (lock->held && !shim_wait_for(lock))
         shim_log("bug", NULL, "BUG: spinlock recursion\n");
     lock->held = true;
+    lock->holder = shim_strand();
 }
 
 static inline void spin_unlock(spinlock_t *lock)
@@ -29,10 +39,10 @@ static inline void spin_unlock(spinlock_t *lock)
 }
 
 #define DEFINE_SPINLOCK(name) spinlock_t name
-#define spin_lock_irqsave(lock, flags) ((flags) = 0, spin_lock(lock))
-#define spin_unlock_irqrestore(lock, flags) ((void)(flags), spin_unlock(lock))
-#define spin_lock_irq(lock) spin_lock(lock)
-#define spin_unlock_irq(lock) spin_unlock(lock)
+#define spin_lock_irqsave(lock, flags) ((flags) = 0, spin_lock_irq(lock))
+#define spin_unlock_irqrestore(lock, flags) ((void)(flags), spin_unlock_irq(lock))
+#define spin_lock_irq(lock) (shim_irqs_off(), spin_lock(lock))
+#define spin_unlock_irq(lock) (spin_unlock(lock), shim_irqs_on())
 #define spin_lock_bh(lock) spin_lock(lock)
 #define spin_unlock_bh(lock) spin_unlock(lock)
 

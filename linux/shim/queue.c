@@ -4,6 +4,7 @@
 
 #include "../bus.h"
 #include "../stack.h"
+#include "../turns.h"
 
 void netif_start_queue(struct net_device *dev)
 {
@@ -18,6 +19,7 @@ void netif_stop_queue(struct net_device *dev)
 void netif_wake_queue(struct net_device *dev)
 {
     dev->stopped = false;
+    turns_wake(dev);
 }
 
 bool netif_queue_stopped(const struct net_device *dev)
@@ -54,12 +56,17 @@ void shim_drop_waiting(struct net_device *dev)
     dev->waiting = 0;
 }
 
+bool shim_may_send(const struct net_device *dev)
+{
+    return netif_running(dev) && !dev->stopped && dev->has_carrier && !dev->is_sending && dev->first != NULL;
+}
+
 /* A driver that calls back from within its own sending isn't handed a second frame meanwhile. */
 bool shim_send_waiting(struct net_device *dev)
 {
     bool any = false;
 
-    while (netif_running(dev) && !dev->stopped && dev->has_carrier && !dev->is_sending && dev->first != NULL) {
+    while (shim_may_send(dev)) {
         struct sk_buff *skb = dev->first;
 
         dev->first = skb->next;
@@ -100,7 +107,7 @@ int dev_queue_xmit(struct sk_buff *skb)
         place = &(*place)->next;
     *place = skb;
     dev->waiting++;
-    shim_send_waiting(dev);
+    turns_send(dev);
     return 0;
 }
 

@@ -3,6 +3,7 @@
 #include "shim.h"
 
 #include "../bus.h"
+#include "../turns.h"
 
 /* What waits, in the order in which it was put off. */
 static struct work_struct *first;
@@ -27,14 +28,22 @@ unsigned int jiffies_to_msecs(unsigned long bits)
     return (unsigned int)((u64)bits * 1000 / HZ);
 }
 
-/* The bus goes on meanwhile; what became pending is handled when the caller is back. Parts of a bit add up. */
+/* The part of a bit that delays have left over, in microseconds times HZ. */
+static u64 rest;
+
+/* The bus goes on meanwhile. Parts of a bit add up. */
 void udelay(unsigned long microseconds)
 {
-    static u64 rest;
     u64 parts = rest + (u64)microseconds * HZ;
 
     rest = parts % USEC_PER_SEC;
-    bus_delay((u32)(parts / USEC_PER_SEC));
+    turns_delay((u32)(parts / USEC_PER_SEC));
+}
+
+void shim_forget_time(void)
+{
+    rest = 0;
+    first = NULL;
 }
 
 bool shim_put_off(struct work_struct *work, unsigned long bits)
@@ -65,26 +74,35 @@ bool shim_take_back(struct work_struct *work)
     return true;
 }
 
-bool shim_do_due(void)
+bool shim_cancel(struct work_struct *work)
 {
-    bool any = false;
+    bool waited = shim_take_back(work);
 
-    for (struct work_struct *work = first; work != NULL;) {
-        if (work->due > jiffies) {
-            work = work->next;
-            continue;
+    turns_until_false(&work->is_done);
+    return waited;
+}
+
+struct work_struct *shim_take_due(bool (*may_begin)(const struct work_struct *work))
+{
+    for (struct work_struct *work = first; work != NULL; work = work->next)
+        if (work->due <= jiffies && may_begin(work)) {
+            shim_take_back(work);
+            return work;
         }
-        shim_take_back(work);
-        work->function(work);
-        any = true;
-        work = first;
-    }
-    return any;
+    return NULL;
+}
+
+void shim_do(struct work_struct *work)
+{
+    work->is_done = true;
+    work->function(work);
+    work->is_done = false;
 }
 
 unsigned long shim_next_due(unsigned long most)
 {
     for (struct work_struct *work = first; work != NULL; work = work->next)
-        most = min(most, work->due > jiffies ? work->due - jiffies : 0);
+        if (work->due > jiffies)
+            most = min(most, work->due - jiffies);
     return most;
 }

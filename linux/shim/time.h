@@ -25,7 +25,7 @@ struct work_struct {
     work_func_t function;
     struct work_struct *next;
     unsigned long due;
-    bool waits;
+    bool waits, is_done;    /* it waits to be done; it is being done */
 };
 
 struct delayed_work {
@@ -34,17 +34,23 @@ struct delayed_work {
 
 #define INIT_WORK(place, what) (*(place) = (struct work_struct){ .function = (what) })
 #define INIT_DELAYED_WORK(place, what) INIT_WORK(&(place)->work, what)
+/* A bus begins: nothing waits. */
+void shim_forget_time(void);
 bool shim_put_off(struct work_struct *work, unsigned long bits);
 bool shim_take_back(struct work_struct *work);
-/* Does what is due. Whether anything was. */
-bool shim_do_due(void);
-/* After how many bits the next thing is due: at most so many. */
+/* Takes back the first that is due and may be done now, or gives null. */
+struct work_struct *shim_take_due(bool (*may_begin)(const struct work_struct *work));
+/* Does one that was taken back. */
+void shim_do(struct work_struct *work);
+/* Takes one back, or waits until it was done. Whether it waited to be done. */
+bool shim_cancel(struct work_struct *work);
+/* After how many bits the next one is due that isn't yet: at most so many. */
 unsigned long shim_next_due(unsigned long most);
 #define schedule_work(place) shim_put_off(place, 0)
 #define schedule_delayed_work(place, bits) shim_put_off(&(place)->work, bits)
-#define cancel_work_sync(place) shim_take_back(place)
+#define cancel_work_sync(place) shim_cancel(place)
 #define cancel_delayed_work(place) shim_take_back(&(place)->work)
-#define cancel_delayed_work_sync(place) shim_take_back(&(place)->work)
+#define cancel_delayed_work_sync(place) shim_cancel(&(place)->work)
 
 static inline struct delayed_work *to_delayed_work(struct work_struct *work)
 {

@@ -39,8 +39,8 @@ static void exchange(void)
     check_number("cansend", bus_send(0, "123#1122"), 0);
     check_number("cansend", bus_send(1, "12345678#33"), 0);
     bus_run(400);
-    check_number("frames of can0", count_frames(0, FRAME_RECEIVED, "12345678#33"), before[0] + 1);
-    check_number("frames of can1", count_frames(1, FRAME_RECEIVED, "123#1122"), before[1] + 1);
+    check_number("frames 12345678#33 at can0", count_frames(0, FRAME_RECEIVED, "12345678#33"), before[0] + 1);
+    check_number("frames 123#1122 at can1", count_frames(1, FRAME_RECEIVED, "123#1122"), before[1] + 1);
 }
 
 void test_open_and_close(void)

@@ -48,9 +48,10 @@ static void take(unsigned node)
  * fair load each driver has a slice in which the ones before it are silent. How many bits were run. */
 static uint32_t load(void)
 {
+    long before = checks_wrong();
     uint32_t run = 0;
 
-    for (unsigned turn = 0; run < WANTED && bus_fault() == 0 && checks_wrong() == 0; turn++) {
+    for (unsigned turn = 0; run < WANTED && bus_fault() == 0 && checks_wrong() == before; turn++) {
         for (unsigned node = turn % DRIVERS; node < DRIVERS; node++)
             fill_queue(node);
         run += bus_run(SLICE);

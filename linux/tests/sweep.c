@@ -6,6 +6,7 @@
 #include <string.h>
 
 #include "check.h"
+#include "judge.h"
 #include "place.h"
 #include "strikes.h"
 #include "tests.h"
@@ -81,9 +82,24 @@ static void delivered_what_was_stored(const char *where)
               stored_by(node), had[node]);
 }
 
+/* What the run ends with, beside what is looked at in it. */
+static void check_ends(const char *where, const struct facts *facts)
+{
+    checks_at(where);
+    if (judge_is_on()) {
+        judge_after(NODES);
+        judge_rest(NODES, facts);
+    } else {
+        check(witness_end(where) == 0, "%s: error frames aren't what the controller told", where);
+        delivered_what_was_stored(where);
+    }
+    end_bus();
+}
+
 /* One run of the sweep. Whether something went wrong in it. */
 static unsigned strike_one(struct row *row, const char *frame, unsigned node, int bit, const char *place)
 {
+    static const struct facts struck = { 0, 1, 0 };
     long before = checks_wrong();
     uint64_t start;
     char where[100];
@@ -99,9 +115,7 @@ static unsigned strike_one(struct row *row, const char *frame, unsigned node, in
     count_outcome(row, frame);
     check(count_frames(0, FRAME_SENT, frame) == 1, "%s: it doesn't come back as sent once", where);
     exchanges(where);
-    check(witness_end(where) == 0, "%s: error frames aren't what the controller told", where);
-    delivered_what_was_stored(where);
-    end_bus();
+    check_ends(where, &struck);
     row->wrong += checks_wrong() > before;
     return checks_wrong() > before;
 }
@@ -146,6 +160,21 @@ void test_sweep(void)
            witness_states_otherwise());
 }
 
+/* A run of bus-off ends so. */
+static void check_off_ends(const char *where)
+{
+    static const struct facts off = { 1, 1, 0 };
+
+    checks_at(where);
+    if (judge_is_on()) {
+        judge_after(NODES);
+        judge_rest(NODES, &off);
+    } else {
+        check(witness_end(where) == 0, "%s: error frames aren't what the controller told", where);
+    }
+    end_bus();
+}
+
 /* The same place of each frame is struck at the sender until it is bus-off. The driver restarts by restart-ms, and the
  * next frame is on the bus at once, and once with each receiver. Whether something went wrong. */
 static unsigned strike_each(const char *frame, int bit, const char *place, unsigned *off)
@@ -170,8 +199,7 @@ static unsigned strike_each(const char *frame, int bit, const char *place, unsig
     bus_run(300);
     for (unsigned node = 1; node < NODES; node++)
         check(count_frames(node, FRAME_RECEIVED, "124#33") == 1, "%s: can%u hasn't the next frame once", where, node);
-    check(witness_end(where) == 0, "%s: error frames aren't what the controller told", where);
-    end_bus();
+    check_off_ends(where);
     return checks_wrong() > before;
 }
 

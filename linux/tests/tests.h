@@ -24,5 +24,7 @@ void test_bus_off_sweep(void);
 void test_random(void);
 void test_tell(void);
 void test_load(void);
+void test_timing_part(void);
+void test_timing(void);
 
 #endif

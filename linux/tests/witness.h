@@ -6,9 +6,12 @@
 
 /* Begins to look, for a bus that begins. */
 void witness_begin(void);
-/* Judges what is left, and says how many error frames weren't those that the controllers told of. Each is printed, with
- * `where` before it. */
+/* Judges what is left, and says how many error frames weren't those that the controllers told of. The first is printed,
+ * with `where` before it. */
 unsigned witness_end(const char *where);
+/* Whether it looks. The same of one node: how many, and the first of them in words. */
+int witness_looks(void);
+unsigned witness_of(unsigned node, const char **text);
 /* Of the error frames of states, how many tell of the greater counter alone, or of both where they are equal, and how
  * many otherwise. */
 unsigned witness_states_by_greater(void);
