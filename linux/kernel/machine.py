@@ -57,9 +57,11 @@ def checked_kernel(kernel, card):
     except (OSError, subprocess.TimeoutExpired) as wrong:
         raise SetupError(f"{kernel} is no kernel of linux/kernel/build: {wrong}") from wrong
     config = dict(line.split("=", 1) for line in told.splitlines() if line.startswith("CONFIG_"))
-    for option in [*(f"CONFIG_{name}" for name in OPTIONS), card.option]:
+    for option in (f"CONFIG_{name}" for name in OPTIONS):
         if option not in config:
             raise SetupError(f"{kernel} has no {option}: build it with linux/kernel/build")
+    if card.option not in config:
+        raise SetupError(f"{kernel} has no {card.option}: build it with linux/kernel/build, or take another --card")
     return config
 
 

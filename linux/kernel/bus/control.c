@@ -50,15 +50,33 @@ void control_say(const char *format, ...)
     va_end(words);
 }
 
+/* Who started this process is gone: nobody else ends the kernels. */
+static _Noreturn void leave(void)
+{
+    kernels_kill();
+    exit(FAILED);
+}
+
+/* Who started this process ends it, and the kernels first: without a bus they would print that their time is gone. */
+static _Noreturn void wait_for_end(void)
+{
+    char byte;
+
+    while (read(fd, &byte, 1) > 0)
+        continue;
+    leave();
+}
+
 void control_used(const char *format, ...)
 {
     va_list words;
 
     bus_end();
+    fflush(NULL);
     va_start(words, format);
     say("used ", format, words);
     va_end(words);
-    exit(0);
+    wait_for_end();
 }
 
 void control_fail(const char *format, ...)
@@ -68,13 +86,6 @@ void control_fail(const char *format, ...)
     va_start(words, format);
     say("fail ", format, words);
     va_end(words);
-    exit(FAILED);
-}
-
-/* Who started this process is gone: nobody else ends the kernels. */
-static void leave(void)
-{
-    kernels_kill();
     exit(FAILED);
 }
 

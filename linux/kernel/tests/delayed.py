@@ -6,6 +6,7 @@ import pathlib
 import re
 import tempfile
 
+from drivers import drives
 from kernels import Kernels
 
 SENDING = 7     # accesses by which a frame of two bytes is sent: five bytes, CMR, and SR
@@ -44,7 +45,7 @@ def delayed(outs, _):
     """latency, access_bits and late delay by as many bits as they say."""
     wrong = []
     for out in outs:
-        for card in ("sja1000_isa", "kvaser_pci"):
+        for card in (card for card in ("sja1000_isa", "kvaser_pci") if drives(out, card)):
             with tempfile.TemporaryDirectory() as folder:
                 log = os.path.join(folder, "log")
                 with Kernels(os.path.join(out, "linux"), card=card, log=log) as kernels:

@@ -13,12 +13,12 @@ import tempfile
 import delayed
 import refused
 import spelled
+from drivers import CARDS, card_of
 from kernels import Kernels, ScriptFailed
 from made import TOP, library, program
 
 HERE = pathlib.Path(__file__).resolve().parent
 FRAMES = ["123#1122", "12345678#0102030405060708", "7FF#"]
-CARDS = ["sja1000_isa", "kvaser_pci", "peak_pci", "ems_pci"]
 RUNS = 10
 
 
@@ -50,8 +50,8 @@ def same_each_time(outs, _):
     for out in outs:
         with tempfile.TemporaryDirectory() as folder:
             log = os.path.join(folder, "log")
-            texts = [ran(kernel_of(out), HERE / "struck.sh", log=log) + pathlib.Path(log).read_text("ascii")
-                     for _ in range(RUNS)]
+            texts = [ran(kernel_of(out), HERE / "struck.sh", card=card_of(out), log=log) +
+                     pathlib.Path(log).read_text("ascii") for _ in range(RUNS)]
         wrong += [line for text in texts[1:] for line in differing(f"{out} again", texts[0], text)]
         print(f"  {out}: {RUNS} runs, {len(texts[0].splitlines())} lines each")
     return wrong
@@ -62,7 +62,7 @@ def swept(outs, _):
     wrong = []
     for out in outs:
         for frame in FRAMES:
-            with Kernels(kernel_of(out), nodes=3, seconds=300) as kernels:
+            with Kernels(kernel_of(out), nodes=3, card=card_of(out), seconds=300) as kernels:
                 real, = kernels.run(f"{sys.executable} {HERE}/sweep.py kernel '{frame}'")
             shim = subprocess.run([sys.executable, str(HERE / "sweep.py"), "shim", frame, source_of(out)],
                                   stdout=subprocess.PIPE, text=True, check=True, env=shim_environment()).stdout
@@ -108,7 +108,7 @@ def replayed(outs, _):
     for out in outs:
         with tempfile.TemporaryDirectory() as folder:
             plan = os.path.join(folder, "plan.toml")
-            text = ran(kernel_of(out), HERE / "card.sh", plan=plan)
+            text = ran(kernel_of(out), HERE / "card.sh", card=card_of(out), plan=plan)
             with open(plan, "rb") as file:
                 told = subprocess.run([program(), "candump", "--errors"], stdin=file, stdout=subprocess.PIPE, text=True,
                                       check=True).stdout
@@ -124,11 +124,11 @@ def together(outs, _):
     several = (list(outs) * 3)[:max(2, min(3, len(outs)))]
     texts = []
     for _ in range(3):
-        with Kernels(*map(kernel_of, several), nodes=1) as kernels:
+        with Kernels(*map(kernel_of, several), nodes=1, card=card_of(*several)) as kernels:
             texts.append("".join(kernels.run(*[HERE / "turns.sh"] * len(several))))
-    with Kernels(*map(kernel_of, several[:2]), nodes=1) as kernels:
+    with Kernels(*map(kernel_of, several[:2]), nodes=1, card=card_of(*several[:2])) as kernels:
         overrun = kernels.run(*[HERE / "overrun.sh"] * 2)[1]
-    print(f"  {len(several)} kernels: {texts[0].count('can0')} frames")
+    print(f"  {len(several)} kernels with {card_of(*several)}: {texts[0].count('can0')} frames")
     wrong = [line for text in texts[1:] for line in differing("together", texts[0], text)]
     if "20000204#0001" not in overrun:
         wrong.append("together: no overrun is told")

@@ -90,6 +90,16 @@ def rows(folder, kernel, hidden):
     ]
 
 
+def full(folder, kernel):
+    """Rows of runs with a plan, each of which uses all of what a plan has."""
+    scripts = [("bits", "up 0; sleep 5\n", "all 2000000 bits"),
+               ("starts", "for i in $(seq 65); do up 0; ip link set can0 down; done\n", "all 64 starts of node 0"),
+               ("accesses", "up 0 1; cangen can0 -g 0.3 -n 5000 -L 8 -p 100\n", "all 65535 accesses of a node")]
+    return [(f"all {name} of a plan", ["--plan", os.path.join(folder, f"{name}.toml"), kernel,
+                                       written(folder, f"{name}.sh", script)], {}, 3, says)
+            for name, script, says in scripts]
+
+
 def left_of(place):
     """What is left of runs in a folder: processes that name it, files, sockets."""
     found = []
@@ -139,7 +149,7 @@ def refused(outs, _):
     kernel = os.path.join(outs[0], "linux")
     with tempfile.TemporaryDirectory() as folder, tempfile.TemporaryDirectory(dir="/dev/shm") as place, \
             tempfile.NamedTemporaryFile(dir="/dev/shm") as hidden:
-        for name, words, environment, status, says in rows(folder, kernel, hidden.name):
+        for name, words, environment, status, says in rows(folder, kernel, hidden.name) + full(folder, kernel):
             wrong += judged(name, tried(words, environment, place), status, says, place)
         nothing = written(folder, "nothing.sh", ":\n")
         wrong += judged("no ptrace", tried([kernel, nothing], {}, place, without_ptrace), 2, "ptrace", place)
