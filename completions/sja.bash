@@ -1,5 +1,5 @@
 # Completion of the words of sja in bash. A package has it as /usr/share/bash-completion/completions/sja; else
-# `. completions/sja.bash`. checks/completions compares it with what the program's help names.
+# `. completions/sja.bash`. checks/pages compares it with what the program's help names.
 
 # _sja: of the words typed so far, which may come next; behind < or >, and behind run, check and their like, the names
 # of files

@@ -1,5 +1,5 @@
-"""What the program's help names: its commands, and the options and arguments of each. tools/help, checks/man and
-checks/completions read it. SJA names another program than that of tools/with_checks."""
+"""What the program's help names: its commands, and the options and arguments of each. tools/help and checks/pages
+read it. SJA names another program than that of tools/with_checks."""
 
 import re
 import subprocess

@@ -40,7 +40,7 @@ class Mutants:
     def __init__(self, seed, folder):
         self.seed = seed
         self.examples = []
-        for path in sorted(glob.glob(f"{folder}/*.toml")):
+        for path in sorted(glob.glob(f"{folder}/*/*.toml")):
             with open(path, encoding="utf-8") as file:
                 self.examples.append(file.read())
 

@@ -22,7 +22,7 @@ def sja(words, plan):
 def examples():
     """The examples by name."""
     found = {}
-    for path in sorted(glob.glob(f"{TOP}/examples/*.toml")):
+    for path in sorted(glob.glob(f"{TOP}/examples/*/*.toml")):
         with open(path, encoding="utf-8") as source:
             found[os.path.basename(path)[:-5]] = source.read()
     return found

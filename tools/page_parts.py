@@ -4,6 +4,7 @@ import base64
 import gzip
 import hashlib
 import json
+import glob
 import os
 import re
 
@@ -26,8 +27,8 @@ def scripts(folder, first, last):
 
 def plans():
     """The examples, as a script's data."""
-    names = sorted(it[:-5] for it in os.listdir(f"{TOP}/examples") if it.endswith(".toml"))
-    return [{"name": name, "text": read(f"examples/{name}.toml")} for name in names]
+    paths = sorted(glob.glob("examples/*/*.toml", root_dir=TOP))
+    return [{"name": os.path.basename(path)[:-5], "text": read(path)} for path in paths]
 
 
 def notices(kit, libraries):

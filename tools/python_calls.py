@@ -110,7 +110,7 @@ def ended(bus, status):
 
 
 def asked_to_send(bus):
-    """Node 0 is to send the frame of examples/own_case.toml, and node 1 is there to receive it."""
+    """Node 0 is to send the frame of examples/own_case/own_case.toml, and node 1 is there to receive it."""
     for address, value in [(0, 0), (16, 2), (17, 0x24), (18, 0x60), (19, 0x11), (20, 0x22), (1, 1)]:
         bus.write(0, address, value)
     bus.write(1, 0, 0)
@@ -129,7 +129,7 @@ def rises(bus):
 
 
 def places(bus):
-    """Places of a frame, as examples/own_case.toml has it."""
+    """Places of a frame, as examples/own_case/own_case.toml has it."""
     asked_to_send(bus)
     for wanted, name, numbers in [
         (None, "place", (0,)), ("NO_NODE", "place", (2,)), ("NO_PLACE", "to", (0, "stuff.30", 9)),

@@ -2,7 +2,7 @@
 
 use super::station::Station;
 use can_frame::{Frame, Message};
-use sja_link::RECEIVE_FIFO;
+use sja_journal::RECEIVE_FIFO;
 use std::alloc::Global;
 
 /// The bits of the longest kind of frame with intermission, and the bit in which it is asked for again.
@@ -27,7 +27,7 @@ pub struct Traffic {
 
 /// Lets the bits of so many frames pass. Before each the senders' drivers ask for one, and after it every driver
 /// releases the message that it was shown.
-pub fn told(alloc: Global, count: u32, traffic: Traffic) -> Option<String> {
+pub fn run(alloc: Global, count: u32, traffic: Traffic) -> Option<String> {
     let mut released = 0u64;
     for _ in 0..count / FRAMES {
         released = released.wrapping_add(released_of(alloc, FRAMES, traffic)?);

@@ -1,14 +1,14 @@
 //! The figure `contending`: eight nodes, each of which always holds a request.
 
 use super::wire::Wire;
-use can_bits::Level;
+use can_levels::Level;
 use std::alloc::Global;
 
 /// The bits of an extended frame with eight data bytes and intermission, about.
 const BITS: u32 = 140;
 
 /// Lets the bits of so many frames pass; who holds no request is asked again between them.
-pub fn told(alloc: Global, count: u32) -> Option<String> {
+pub fn run(alloc: Global, count: u32) -> Option<String> {
     let data = [0x11, 0x22, 0x33, 0x44, 0x55, 0x66, 0x77, 0x88];
     let mut wire = Wire::new(alloc, 8, false)?;
     wire.integrate();
@@ -18,6 +18,6 @@ pub fn told(alloc: Global, count: u32) -> Option<String> {
             wire.bit(Level::Recessive);
         }
     }
-    let tally = wire.told();
+    let tally = wire.count();
     format!(in alloc; "{tally}").ok()
 }

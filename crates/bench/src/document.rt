@@ -1,7 +1,8 @@
 //! [`Document`]: what is read in the figures of plans.
 
 use super::long::{filled, list};
-use sja_plan::{MOST_BYTES, MOST_STRIKES};
+use sja_plan::MOST_STRIKES;
+use sja_plan_reading::MOST_BYTES;
 use std::alloc::{AllocError, Global};
 
 /// What a document of 65,536 bytes has most of.

@@ -67,7 +67,7 @@ pub enum Figure {
     /// It runs the bits of frames and watches its lines.
     SessionBusyWatched,
     /// A session is driven line by line.
-    Talk,
+    LiveSession,
 }
 
 /// Every figure, in the order in which `all` tells them.
@@ -99,7 +99,7 @@ pub const FIGURES: [Figure; 28] = [
     Figure::SessionIdleWatched,
     Figure::SessionBusy,
     Figure::SessionBusyWatched,
-    Figure::Talk,
+    Figure::LiveSession,
 ];
 
 /// A sender and a receiver.
@@ -170,42 +170,42 @@ impl Figure {
             Figure::SessionIdleWatched => "session-idle-watched",
             Figure::SessionBusy => "session-busy",
             Figure::SessionBusyWatched => "session-busy-watched",
-            Figure::Talk => "talk",
+            Figure::LiveSession => "talk",
         }
     }
 
     /// Does the figure's work so many times, and says what it did: first what is counted and how many. Nothing where
     /// memory was refused or a frame wasn't sent.
-    pub fn told(self, alloc: Global, count: u32) -> Option<String> {
+    pub fn run(self, alloc: Global, count: u32) -> Option<String> {
         match self {
-            Figure::Shift => shift::told(alloc, count),
-            Figure::Line => line::told(alloc, count),
-            Figure::Node => node::told(alloc, count),
-            Figure::Idle => idle::told(alloc, count),
-            Figure::Hearing => hearing::told(alloc, count),
-            Figure::Sending => sending::told(alloc, count),
-            Figure::Faults => faults::told(alloc, count),
-            Figure::Contending => contending::told(alloc, count),
-            Figure::Stream => stream::told(alloc, count),
-            Figure::BusStream => buses::told(alloc, count / 10, STREAM),
-            Figure::BusContending => buses::told(alloc, count / 10, CONTENDING),
-            Figure::BusIdle => buses::told(alloc, count / 10, BUS_IDLE),
-            Figure::BusIdleStretch => buses::told(alloc, count / 10, BUS_IDLE_STRETCH),
-            Figure::Plan => plans::told(alloc, count, Document::Steps),
-            Figure::Comments => plans::told(alloc, count, Document::Comments),
-            Figure::Numbers => plans::told(alloc, count, Document::Numbers),
-            Figure::Words => plans::told(alloc, count, Document::Words),
-            Figure::Tables => plans::told(alloc, count, Document::Tables),
+            Figure::Shift => shift::run(alloc, count),
+            Figure::Line => line::run(alloc, count),
+            Figure::Node => node::run(alloc, count),
+            Figure::Idle => idle::run(alloc, count),
+            Figure::Hearing => hearing::run(alloc, count),
+            Figure::Sending => sending::run(alloc, count),
+            Figure::Faults => faults::run(alloc, count),
+            Figure::Contending => contending::run(alloc, count),
+            Figure::Stream => stream::run(alloc, count),
+            Figure::BusStream => buses::run(alloc, count / 10, STREAM),
+            Figure::BusContending => buses::run(alloc, count / 10, CONTENDING),
+            Figure::BusIdle => buses::run(alloc, count / 10, BUS_IDLE),
+            Figure::BusIdleStretch => buses::run(alloc, count / 10, BUS_IDLE_STRETCH),
+            Figure::Plan => plans::run(alloc, count, Document::Steps),
+            Figure::Comments => plans::run(alloc, count, Document::Comments),
+            Figure::Numbers => plans::run(alloc, count, Document::Numbers),
+            Figure::Words => plans::run(alloc, count, Document::Words),
+            Figure::Tables => plans::run(alloc, count, Document::Tables),
             Figure::SessionRead => sessions::reads_told(alloc, count),
             Figure::SessionWrite => sessions::writes_told(alloc, count),
             Figure::SessionCommand => sessions::commands_told(alloc, count),
             Figure::SessionStream => sessions::frames_told(alloc, count / 10),
-            Figure::SessionFrameRead => frame_reads::told(alloc, count),
-            Figure::SessionIdle => watching::told(alloc, count / 10, IDLE),
-            Figure::SessionIdleWatched => watching::told(alloc, count / 10, IDLE_WATCHED),
-            Figure::SessionBusy => watching::told(alloc, count / 10, BUSY),
-            Figure::SessionBusyWatched => watching::told(alloc, count / 10, BUSY_WATCHED),
-            Figure::Talk => talk::told(alloc, count),
+            Figure::SessionFrameRead => frame_reads::run(alloc, count),
+            Figure::SessionIdle => watching::run(alloc, count / 10, IDLE),
+            Figure::SessionIdleWatched => watching::run(alloc, count / 10, IDLE_WATCHED),
+            Figure::SessionBusy => watching::run(alloc, count / 10, BUSY),
+            Figure::SessionBusyWatched => watching::run(alloc, count / 10, BUSY_WATCHED),
+            Figure::LiveSession => talk::run(alloc, count),
         }
     }
 }

@@ -1,6 +1,6 @@
 //! The figure of what a driver reads for a frame.
 
-use super::sessions::{FRAME, load, read, run, session_of, start, write};
+use super::sessions::{FRAME, load, read, run as run_bits, session_of, start, write};
 use sja_session::Session;
 use std::alloc::Global;
 
@@ -14,7 +14,7 @@ const BITS: u32 = 200;
 const READS: u32 = 15;
 
 /// Has a session read so many times: SR of both nodes and the 13 bytes of the second node's message, again and again.
-pub fn told(alloc: Global, count: u32) -> Option<String> {
+pub fn run(alloc: Global, count: u32) -> Option<String> {
     let mut sum = 0u64;
     for _ in 0..count / ACCESSES {
         sum = sum.wrapping_add(sum_of_reads(alloc, ACCESSES)?);
@@ -29,7 +29,7 @@ fn sum_of_reads(alloc: Global, count: u32) -> Option<u64> {
     start(&mut session)?;
     load(&mut session)?;
     write(&mut session, 0, 1, 0x01)?;
-    run(&mut session, BITS)?;
+    run_bits(&mut session, BITS)?;
     sum_in(&mut session, count)
 }
 

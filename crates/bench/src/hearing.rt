@@ -2,11 +2,11 @@
 
 use super::long_frame::long_line;
 use super::wire::Wire;
-use can_bits::Level;
+use can_levels::Level;
 use std::alloc::Global;
 
 /// Receives the frame so many times, with intermission after each. Another one acknowledges it too.
-pub fn told(alloc: Global, count: u32) -> Option<String> {
+pub fn run(alloc: Global, count: u32) -> Option<String> {
     let line = long_line(alloc)?;
     let mut wire = Wire::new(alloc, 1, false)?;
     wire.integrate();
@@ -18,6 +18,6 @@ pub fn told(alloc: Global, count: u32) -> Option<String> {
             wire.bit(Level::Recessive);
         }
     }
-    let tally = wire.told();
+    let tally = wire.count();
     format!(in alloc; "{tally}").ok()
 }

@@ -1,11 +1,11 @@
 //! The figure `idle`: eight nodes on an idle bus.
 
 use super::wire::Wire;
-use can_bits::Level;
+use can_levels::Level;
 use std::alloc::Global;
 
 /// Lets so many hundred bits pass.
-pub fn told(alloc: Global, count: u32) -> Option<String> {
+pub fn run(alloc: Global, count: u32) -> Option<String> {
     let mut wire = Wire::new(alloc, 8, false)?;
     wire.integrate();
     for _ in 0..count {
@@ -13,6 +13,6 @@ pub fn told(alloc: Global, count: u32) -> Option<String> {
             wire.bit(Level::Recessive);
         }
     }
-    let tally = wire.told();
+    let tally = wire.count();
     format!(in alloc; "{tally}").ok()
 }

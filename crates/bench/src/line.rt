@@ -5,7 +5,7 @@ use can_bits::read_line;
 use std::alloc::Global;
 
 /// Reads the line so many times, and tells how many levels and frames there were.
-pub fn told(alloc: Global, count: u32) -> Option<String> {
+pub fn run(alloc: Global, count: u32) -> Option<String> {
     let line = long_line(alloc)?;
     let length = u64::try_from(line.len()).ok()?;
     let mut levels = 0u64;

@@ -1,7 +1,8 @@
 //! The frame that the figures send and read, and its line.
 
-use can_bits::{Level, line_of};
+use can_bits::line_of;
 use can_frame::Frame;
+use can_levels::Level;
 use std::alloc::Global;
 
 /// An extended data frame with as much data as there can be.

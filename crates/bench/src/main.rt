@@ -68,7 +68,7 @@ fn all_are_told(rt: &HostRuntime, count: u32) -> bool {
 
 /// Does a figure's work so many times, and prints its line. Whether it was done and written.
 fn is_told(rt: &HostRuntime, figure: Figure, count: u32) -> bool {
-    match figure.told(rt.alloc(), count) {
+    match figure.run(rt.alloc(), count) {
         Some(text) => println!(rt; "{text}").is_ok(),
         None => false,
     }

@@ -4,9 +4,10 @@
 use super::long_frame::long_frame;
 use super::tally::Tally;
 use super::wire::EVERY_FRAME;
-use can_bits::Level;
 use can_frame::Frame;
-use can_node::{Config, Node, Outcome, Request};
+use can_levels::Level;
+use can_node::Node;
+use can_node_rules::{Config, Outcome, Request};
 use std::alloc::Global;
 
 /// More bits than a frame needs: eleven before the first, and a line and the interframe space after it.
@@ -14,7 +15,7 @@ const MOST_BITS: u32 = 200;
 
 /// Sends so many frames, each from the next node, and tells how many bits the nodes saw, and how many frames were sent
 /// and received.
-pub fn told(alloc: Global, count: u32) -> Option<String> {
+pub fn run(alloc: Global, count: u32) -> Option<String> {
     let frame = long_frame()?;
     let mut traffic = Traffic::new();
     for number in 0..count {

@@ -1,11 +1,12 @@
 //! The figures of plans: a document of 65,536 bytes is read again and again.
 
 use super::document::Document;
-use sja_plan::{Plan, read_plan};
+use sja_plan::Plan;
+use sja_plan_reading::read_plan;
 use std::alloc::Global;
 
 /// Reads the document once, and once more for each hundred of the count.
-pub fn told(alloc: Global, count: u32, document: Document) -> Option<String> {
+pub fn run(alloc: Global, count: u32, document: Document) -> Option<String> {
     let text = document.text(alloc).ok()?;
     for _ in 0..count / 100 {
         let _read = read_plan(alloc, text.as_bytes());

@@ -1,7 +1,7 @@
 //! Bits of a bus in one thread.
 
 ghost use Rattle.std.specs.Prelude.{◌≡◌, ◌≤◌, length};
-ghost use Rattle.sja_link.specs.Links.{AreEnds, HaveLinks};
+ghost use Rattle.sja_journal.specs.Links.{AreEnds, HaveLinks};
 
 use sja_bus::{Bus, SerialBoard};
 use sja_link::DequeLinks;

@@ -2,14 +2,14 @@
 
 use super::long_frame::long_frame;
 use super::wire::Wire;
-use can_bits::Level;
+use can_levels::Level;
 use std::alloc::Global;
 
 /// The bits of a frame of that kind with intermission, and the bit in which it is asked for again.
 const BITS: u32 = 145;
 
 /// Lets the bits of so many frames pass; the node is asked for the frame again after each.
-pub fn told(alloc: Global, count: u32) -> Option<String> {
+pub fn run(alloc: Global, count: u32) -> Option<String> {
     told_of(alloc, 1, true, count)
 }
 
@@ -24,6 +24,6 @@ pub fn told_of(alloc: Global, nodes: usize, self_test: bool, count: u32) -> Opti
             wire.bit(Level::Recessive);
         }
     }
-    let tally = wire.told();
+    let tally = wire.count();
     format!(in alloc; "{tally}").ok()
 }

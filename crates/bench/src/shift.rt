@@ -1,12 +1,13 @@
 //! The figure `shift`: a reader of one level at a time is given the received line of one frame again and again.
 
 use super::long_frame::long_line;
-use can_bits::{Level, Shift, ShiftEvent};
+use can_bits::Shift;
+use can_levels::{Level, ShiftEvent};
 use std::alloc::Global;
 use std::fmt::{Display, Error, Formatter, Write};
 
 /// Reads the line so many times, and tells how many levels and frames there were.
-pub fn told(alloc: Global, count: u32) -> Option<String> {
+pub fn run(alloc: Global, count: u32) -> Option<String> {
     let line = long_line(alloc)?;
     let mut reading = Reading::new();
     for _ in 0..count {

@@ -1,7 +1,7 @@
 //! [`Station`]: a bus in one thread with a driver out of reset for each node.
 
 ghost use Rattle.std.specs.Prelude.{◌≡◌, ◌≤◌, length, IfOk};
-ghost use Rattle.sja_link.specs.Links.{AreEnds, HaveLinks};
+ghost use Rattle.sja_journal.specs.Links.{AreEnds, HaveLinks};
 
 use super::running::run_bits;
 use can_frame::{Message, OutOfMemory};
@@ -10,7 +10,7 @@ use sja_driver::{Active, Driver};
 use sja_link::{DequeLinks, DriverEnd};
 use sja_plan::MOST_BITS;
 use sja_regs::{Port, letters};
-use sja_script::{FaultScript, MOST_NODES};
+use sja_steps::{FaultScript, MOST_NODES};
 use std::alloc::Global;
 
 /// The command that requests a transmission (SJA1000 data sheet, 6.4.4).

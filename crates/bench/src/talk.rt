@@ -1,15 +1,15 @@
 //! The figure of talks: a session is asked for a register, line by line.
 
-use sja_live::{TalkEnd, talk};
+use sja_live::{LiveSessionEnd, talk};
 use std::alloc::{AllocError, Global};
 
 /// Has a talk of so many lines, each a read of SR, over bytes in memory.
-pub fn told(alloc: Global, count: u32) -> Option<String> {
+pub fn run(alloc: Global, count: u32) -> Option<String> {
     let said = lines(alloc, count).ok()?;
     let mut input = said.as_bytes();
     let mut answers = Vec::new(alloc);
     match talk(alloc, &mut input, &mut answers) {
-        Ok(TalkEnd::Reported) => {
+        Ok(LiveSessionEnd::Reported) => {
             let bytes = answers.len();
             format!(in alloc; "lines {count} bytes {bytes}").ok()
         }

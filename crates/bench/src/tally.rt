@@ -1,6 +1,6 @@
 //! [`Tally`]: what nodes were told of all their bits.
 
-use can_node::{BitEvents, Outcome};
+use can_node_rules::{BitEvents, Outcome};
 use std::fmt::{Display, Error, Formatter, Write};
 
 /// What nodes were told of all their bits.

@@ -1,6 +1,6 @@
 //! The figures of the bits of a session: idle ones and those of frames, watched and unwatched.
 
-use super::sessions::{BITS, WAITING, load, run, session_of, start, write};
+use super::sessions::{BITS, WAITING, load, run as run_bits, session_of, start, write};
 use sja_session::Session;
 use std::alloc::Global;
 
@@ -41,7 +41,7 @@ pub const BUSY_WATCHED: Watching = Watching {
 };
 
 /// Lets the bits of a frame pass so many times, in sessions of two nodes, and says how often a watched line rose.
-pub fn told(alloc: Global, count: u32, watching: Watching) -> Option<String> {
+pub fn run(alloc: Global, count: u32, watching: Watching) -> Option<String> {
     let mut rose = 0u64;
     for _ in 0..count / TIMES {
         rose = rose.wrapping_add(rose_of(alloc, TIMES, watching)?);
@@ -94,7 +94,7 @@ fn pass(session: &mut Session, count: u32, watching: Watching) -> Option<u32> {
     if watching.watched {
         return watch(session, count);
     }
-    run(session, count)?;
+    run_bits(session, count)?;
     Some(count)
 }
 

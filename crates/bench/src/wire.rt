@@ -1,9 +1,10 @@
 //! [`Wire`]: nodes on one wire, each bit taken the quick way where nothing happens.
 
 use super::tally::Tally;
-use can_bits::Level;
 use can_frame::{Filter, Frame};
-use can_node::{Config, Node, Request};
+use can_levels::Level;
+use can_node::Node;
+use can_node_rules::{Config, Request};
 use std::alloc::Global;
 
 /// The filter that passes every frame.
@@ -76,7 +77,7 @@ impl Wire {
     }
 
     /// What the nodes were told so far.
-    pub fn told(&mut self) -> &Tally {
+    pub fn count(&mut self) -> &Tally {
         self.tally
             .pass(self.bits.wrapping_mul(self.nodes.len() as u64));
         self.bits = 0;

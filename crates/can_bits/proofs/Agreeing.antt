@@ -5,11 +5,11 @@ use Rattle.std.proofs.Math.Nat.{div-eq_of_lt}
 use Rattle.std.proofs.lemmas.Bool.{cases_lt}
 use Rattle.std.proofs.lemmas.Nat.{shr-shr}
 use Rattle.lemmas.proofs.Numbers.{same_from_xor}
-use Rattle.can_bits.specs.declared.level.Level.{Level}
+use Rattle.can_levels.specs.declared.level.Level.{Level}
 use Rattle.can_bits.specs.declared.sent_body.SentBody.{SentBody}
-use Rattle.can_bits.specs.Digits.{digit, level_of}
+use Rattle.can_levels.specs.Digits.{digit, level_of}
 use Rattle.can_bits.specs.Sending.{AgreeFor, BothHave, packed_level}
-use Rattle.can_bits.proofs.Values.{level-digit}
+use Rattle.can_levels.proofs.Values.{level-digit}
 use native.Mathlib.Nat.{div-lt_iff_lt-mul, lt_of_lt_of_le, pow-suc}
 use lib.Bits.{bit_xor, xor_lt, xor_shr, xor_self}
 use lib.Count.{count_leading_zeros, leading_length}

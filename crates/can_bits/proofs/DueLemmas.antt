@@ -1,28 +1,28 @@
 -- When an ACK is due, and when a whole line has come.
 use Rattle.std.proofs.Common.{◌≡◌, ◌+◌, inl, inr, ◌↔◌, IsTrue, ℕ, Bool, Option, None, List, [], ◌∷◌, ◌++◌}
 use Rattle.std.proofs.Common.{length, replicate, take, refl, ap, sym, subst, ◌∙◌, arith, append_assoc}
-use Rattle.std.proofs.lemmas.List.{append-nil, length-append, length-take-le, length_push}
+use Rattle.std.proofs.lemmas.List.{length-append, length-take-le, length_push}
 use Rattle.std.proofs.lemmas.List.{nil_from_length, same_from_push}
 use Rattle.can_frame.specs.Frame.{FrameValue}
-use Rattle.can_bits.specs.declared.level.Level.{Level}
-use Rattle.can_bits.specs.declared.level.Level.TheVariants.{Dominant, Recessive}
+use Rattle.can_levels.specs.declared.level.Level.{Level}
+use Rattle.can_levels.specs.declared.level.Level.TheVariants.{Dominant, Recessive}
 use Rattle.can_bits.specs.declared.body_word.BodyWord.{BodyWord}
 use Rattle.can_bits.specs.declared.frame_part.FramePart.{FramePart}
 use Rattle.can_bits.specs.declared.frame_part.FramePart.TheVariants.{Stuffed, FixedForm}
 use Rattle.can_bits.specs.declared.shift.Shift.{Shift}
-use Rattle.can_bits.specs.declared.shift_fault.ShiftFault.{ShiftFault}
-use Rattle.can_bits.specs.Check.{Crc}
-use Rattle.can_bits.specs.Line.{StuffedPart, tail}
+use Rattle.can_levels.specs.declared.shift_fault.ShiftFault.{ShiftFault}
+use Rattle.can_levels.specs.Check.{Crc}
+use Rattle.can_levels.specs.Line.{StuffedPart, tail}
 use Rattle.can_bits.specs.Inside.Gathering.{SaysWhetherRight}
-use Rattle.can_bits.specs.Streaming.{IsReadable, IsLineButFor, IsOver}
-use Rattle.can_bits.specs.Acknowledging.{IsAckDue}
+use Rattle.can_levels.specs.Streaming.{IsReadable, IsLineButFor, IsOver}
+use Rattle.can_levels.specs.Acknowledging.{IsAckDue}
 use Rattle.can_bits.specs.Inside.FrameParts.{IsInside, IsPast, ReadsAt}
 use Rattle.can_bits.specs.Shifts.{Broke, StandsBy, StandsFor}
 use Rattle.lemmas.proofs.Lists.{last_of, append-cancel}
-use Rattle.can_bits.proofs.Ending.{same_part, same_spelling}
-use Rattle.can_bits.proofs.Readables.{readable_front}
+use Rattle.can_levels.proofs.Ending.{same_part, same_spelling}
+use Rattle.can_levels.proofs.Readables.{readable_front}
 use Rattle.can_bits.proofs.Reader.Past.{past_but_for}
-use Rattle.can_bits.proofs.Reader.Inside.{not_past}
+use Rattle.can_levels.proofs.Reader.Inside.{not_past}
 use Rattle.can_bits.proofs.Reader.Told.{broke_wrong, says_so}
 
 -- what has broken isn't right so far
@@ -115,12 +115,6 @@ over_readable l (f, h) = record {
   begun = record { frame = f; body = h.body; check = h.check; ack = h.ack; rest = h.rest; line = h.line };
   right = λ few. h.right;
 }
-
-pub over_part : (l : List Level) (h : IsOver l) → l ≡ h.1.line.part ++ tail h.1.ack
-over_part l h =
-    let but = h.1 in
-    let P : List Level → Type 0 = λ r. l ++ r ≡ but.line.part ++ tail but.ack in
-    sym (append-nil l) ∙ subst P (nil_from_length but.rest but.count) but.line.whole
 
 -- a line but for its last level is its stuffed part and nine levels more
 pub sixth_part : (f : FrameValue) (l : List Level) (h : IsLineButFor 1 f l) →

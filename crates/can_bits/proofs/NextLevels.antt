@@ -1,36 +1,35 @@
 -- The next level of the line that a transmitter sends.
-use Rattle.std.proofs.Common.{◌≡◌, ◌≢◌, ◌+◌, ◌-◌, ◌*◌, ◌/◌, ◌^◌, ◌<◌, ◌≤◌, ◌==◌, inl, inr, ℕ, Some, None, List}
+use Rattle.std.proofs.Common.{◌≡◌, ◌≢◌, ◌+◌, ◌-◌, ◌*◌, ◌/◌, ◌^◌, ◌<◌, ◌≤◌, ◌==◌, inl, inr, ℕ, Some, List}
 use Rattle.std.proofs.Common.{[], ◌∷◌, ◌++◌, length, reverse, take, refl, ap, sym, subst, ◌∙◌, arith, append_assoc}
 use Rattle.std.specs.List.{slice_get}
 use Rattle.std.proofs.Math.Nat.{mul-lt-mul_of_pos_right}
 use Rattle.std.proofs.Math.Seq.{get_or-append_seam}
-use Rattle.std.proofs.lemmas.Bool.{cases_lt}
 use Rattle.std.proofs.lemmas.Nat.{pow-add, pow_pos}
 use Rattle.std.proofs.lemmas.List.{append-nil, length-append, reverse-append}
 use Rattle.std.proofs.lemmas.List.{get_or_append_left, get_or-append_right, get_or-replicate}
-use Rattle.std.proofs.lemmas.Option.{slice_get-get_or, slice_get_within, get_or_from_slice_get}
+use Rattle.std.proofs.lemmas.Option.{slice_get_within, get_or_from_slice_get}
 use Rattle.can_frame.specs.Frame.{FrameValue}
-use Rattle.can_bits.specs.declared.level.Level.{Level}
-use Rattle.can_bits.specs.declared.level.Level.TheVariants.{Dominant, Recessive}
+use Rattle.can_levels.specs.declared.level.Level.{Level}
+use Rattle.can_levels.specs.declared.level.Level.TheVariants.{Dominant, Recessive}
 use Rattle.can_bits.specs.declared.body_word.BodyWord.{BodyWord}
-use Rattle.can_bits.specs.Digits.{digit, level_of, opposite, value}
-use Rattle.can_bits.specs.Check.{IsMultiple, Crc}
-use Rattle.can_bits.specs.Fields.{level_at}
-use Rattle.can_bits.specs.Line.{StuffedPart, tail}
-use Rattle.can_bits.specs.Reading.{IsPastPart}
-use Rattle.can_bits.specs.Streaming.{IsReadable}
-use Rattle.can_bits.specs.Inside.PartSoFar.{BeginsPart}
+use Rattle.can_levels.specs.Digits.{digit, level_of, opposite, value}
+use Rattle.can_levels.specs.Check.{IsMultiple, Crc}
+use Rattle.can_levels.specs.Fields.{level_at}
+use Rattle.can_levels.specs.Line.{StuffedPart, tail}
+use Rattle.can_levels.specs.Reading.{IsPastPart}
+use Rattle.can_levels.specs.Streaming.{IsReadable}
+use Rattle.can_levels.specs.PartSoFar.{BeginsPart}
 use Rattle.can_bits.specs.Inside.FrameParts.{IsPast}
 use Rattle.lemmas.proofs.Lists.{fronts, append-split, cases_list, reverse-cons}
-use Rattle.can_bits.proofs.Values.{value-append, value-lt}
+use Rattle.can_levels.proofs.Values.{value-append, value-lt}
 use Rattle.can_bits.proofs.Packing.Numbers.{digit-level}
-use Rattle.can_bits.proofs.Products.{multiples_agree}
+use Rattle.can_levels.proofs.Products.{multiples_agree}
 use Rattle.can_bits.proofs.Packing.Registers.{shifted_up}
-use Rattle.can_bits.proofs.Runs.{run}
-use Rattle.can_bits.proofs.Stuffs.{unstuffed, lead-same, other-opposite}
-use Rattle.can_bits.proofs.Parts.{plain, plain-part, unstuffed-next}
-use Rattle.can_bits.proofs.Ending.{same_part, six_in_part}
-use Rattle.can_bits.proofs.Reader.Inside.{holds_by}
+use Rattle.can_levels.proofs.Runs.{run}
+use Rattle.can_levels.proofs.Stuffs.{unstuffed, lead-same, other-opposite}
+use Rattle.can_levels.proofs.Parts.{plain, plain-part, unstuffed-next}
+use Rattle.can_levels.proofs.Ending.{same_part, six_in_part}
+use Rattle.can_levels.proofs.Reader.Inside.{holds_by}
 use Rattle.can_bits.proofs.Reader.Places.{inside_run}
 
 -- ---- in the body and its CRC sequence
@@ -70,14 +69,6 @@ next_body b c w t x y whole here =
     sym (get_or_from_slice_get b n y Dominant here)
     ∙ sym (get_or_append_left b c Dominant n (slice_get_within b n y here))
     ∙ ap (λ l. level_at l n) whole ∙ get_or-append_seam w x t Dominant
-
--- a list that has no such place is no longer
-pub none_past : (b : List Level) (n : ℕ) → slice_get b n ≡ None → length b ≤ n
-none_past b n none =
-    elim (cases_lt n (length b)) [
-      | inl within ↦ let some = slice_get-get_or b n Dominant within in let wrong = sym none ∙ some in cc
-      | inr past ↦ past
-    ]
 
 -- ---- in the stuffed part
 

@@ -7,18 +7,18 @@ use Rattle.std.proofs.lemmas.Bool.Decides.{eqb_tells}
 use Rattle.std.proofs.lemmas.List.{length_push}
 use Rattle.std.proofs.lemmas.Option.{slice_get-get_or, slice_get_past}
 use Rattle.can_frame.specs.Frame.{FrameValue}
-use Rattle.can_bits.specs.declared.level.Level.{Level}
-use Rattle.can_bits.specs.declared.level.Level.TheVariants.{Dominant, Recessive}
+use Rattle.can_levels.specs.declared.level.Level.{Level}
+use Rattle.can_levels.specs.declared.level.Level.TheVariants.{Dominant, Recessive}
 use Rattle.can_bits.specs.declared.frame_part.FramePart.{FramePart}
 use Rattle.can_bits.specs.declared.frame_part.FramePart.TheVariants.{Stuffed, FixedForm}
 use Rattle.can_bits.specs.declared.body_word.BodyWord.{BodyWord}
 use Rattle.can_bits.specs.declared.sent_body.SentBody.{SentBody}
 use Rattle.can_bits.specs.declared.shift.Shift.{Shift}
-use Rattle.can_bits.specs.Digits.{level_of, opposite, value}
-use Rattle.can_bits.specs.Body.{sent_body}
-use Rattle.can_bits.specs.Check.{Crc}
-use Rattle.can_bits.specs.Fields.{level_at}
-use Rattle.can_bits.specs.Line.{StuffedPart, tail}
+use Rattle.can_levels.specs.Digits.{level_of, opposite, value}
+use Rattle.can_levels.specs.Body.{sent_body}
+use Rattle.can_levels.specs.Check.{Crc}
+use Rattle.can_levels.specs.Fields.{level_at}
+use Rattle.can_levels.specs.Line.{StuffedPart, tail}
 use Rattle.can_bits.specs.Packing.{IsSentBody}
 use Rattle.can_bits.specs.Sending.{AgreeFor, SendsAlong, TakesInside, next_at, next_level, or_crc, packed_level}
 use Rattle.can_bits.specs.Sending.{place_of}
@@ -26,7 +26,7 @@ use Rattle.can_bits.specs.Sending.SendsAlong.{nothing, one_more}
 use Rattle.can_bits.specs.Shifts.{StandsFor}
 use Rattle.can_bits.specs.Inside.Gathering.{Gathers}
 use Rattle.can_bits.proofs.Packing.Numbers.{level_packed}
-use Rattle.can_bits.proofs.Reader.Inside.{not_past}
+use Rattle.can_levels.proofs.Reader.Inside.{not_past}
 use Rattle.can_bits.proofs.Reader.Places.{reads_inside, reads_past}
 use Rattle.can_bits.proofs.NextLevels.{next_body, next_check, plain_next, sent_inside, sent_past, sent_readable}
 use Rattle.can_bits.proofs.NextLevels.{stuff_next}

@@ -2,7 +2,5 @@
 pub mod Numbers
 pub mod Marks
 pub mod Pushes
-pub mod Words
-pub mod Frames
 pub mod Bodies
 pub mod Registers

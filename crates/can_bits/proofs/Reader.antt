@@ -1,5 +1,4 @@
 -- A reader of one level at a time.
-pub mod Inside
 pub mod Take
 pub mod Taken
 pub mod Past

@@ -1,7 +1,7 @@
 //! The body and the CRC sequence that a reader is given, kept as one number.
 
 use super::crc::crc_step;
-use super::level::Level;
+use can_levels::Level;
 
 mod fields;
 mod next;
@@ -28,11 +28,11 @@ pub(crate) struct BodyWord {
 impl BodyWord {
     ghost use Rattle.std.specs.Prelude.{◌≡◌, ◌≢◌, ◌+◌, ◌*◌, ◌%◌, ◌^◌, ◌<◌, ◌≤◌, ◌∷◌, ◌++◌, [], List, length};
     ghost use Rattle.std.specs.Prelude.{◌↔◌, IsTrue};
-    ghost use Rattle.can_bits.specs.declared.level.Level.{Level as Bus};
-    ghost use Rattle.can_bits.specs.Check.{IsMultiple};
-    ghost use Rattle.can_bits.specs.Digits.{value};
-    ghost use Rattle.can_bits.specs.Inside.Data.{data_place};
-    ghost use Rattle.can_bits.specs.Fields.{says_count};
+    ghost use Rattle.can_levels.specs.declared.level.Level.{Level as Bus};
+    ghost use Rattle.can_levels.specs.Check.{IsMultiple};
+    ghost use Rattle.can_levels.specs.Digits.{value};
+    ghost use Rattle.can_levels.specs.DataBits.{data_place};
+    ghost use Rattle.can_levels.specs.Fields.{says_count};
     ghost use Rattle.can_bits.specs.Packing.{Packs};
     ghost use Rattle.can_bits.specs.Inside.Gathering.{Gathers, SaysWhetherRight, mark_of};
 

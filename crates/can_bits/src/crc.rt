@@ -1,11 +1,11 @@
 //! The CRC sequence, and the CRC register level by level.
 
 ghost use Rattle.std.specs.Prelude.{◌≡◌, ◌<◌, ◌+◌, ◌*◌, [], ◌∷◌, ◌++◌, List};
-ghost use Rattle.can_bits.specs.declared.level.Level.{Level as Bus};
-ghost use Rattle.can_bits.specs.Digits.{bits, value};
-ghost use Rattle.can_bits.specs.Check.{Crc, IsMultiple};
+ghost use Rattle.can_levels.specs.declared.level.Level.{Level as Bus};
+ghost use Rattle.can_levels.specs.Digits.{bits, value};
+ghost use Rattle.can_levels.specs.Check.{Crc, IsMultiple};
 
-use super::level::Level;
+use can_levels::Level;
 
 /// The generator x^15 + x^14 + x^10 + x^8 + x^7 + x^4 + x^3 + 1 without its first term.
 const GENERATOR: u16 = 0x4599;

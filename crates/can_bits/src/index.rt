@@ -1,13 +1,13 @@
 //! Where in its segment a level of a line is.
 
 ghost use Rattle.std.specs.Prelude.{◌≡◌, ◌≤◌, ◌-◌, ◌∷◌, [], true, false};
-ghost use Rattle.can_bits.specs.Segments.{segments_of};
-ghost use Rattle.can_bits.specs.declared.segment.Segment.TheVariants.{Data};
-ghost use Rattle.can_bits.specs.FramePlaces.{index_in, place_after};
+ghost use Rattle.can_levels.specs.Segments.{segments_of};
+ghost use Rattle.can_levels.specs.declared.segment.Segment.TheVariants.{Data};
+ghost use Rattle.can_levels.specs.FramePlaces.{index_in, place_after};
 
-use super::frame_place::FramePlace;
 use super::layout::CRC_LEVELS;
 use super::place::segment_after;
+use can_levels::FramePlace;
 
 /// How many levels of its segment stand before the level at a place of a body and its CRC sequence, which have `count`
 /// levels in all.

@@ -2,8 +2,8 @@
 
 ghost use Rattle.std.specs.Prelude.{◌≡◌, List};
 ghost use Rattle.can_frame.specs.Frame.{FrameValue};
-ghost use Rattle.can_bits.specs.declared.level.Level.{Level as Bus};
-ghost use Rattle.can_bits.specs.Spelling.{Spells};
+ghost use Rattle.can_levels.specs.declared.level.Level.{Level as Bus};
+ghost use Rattle.can_levels.specs.Spelling.{Spells};
 ghost use Rattle.can_bits.specs.Inside.Gathering.{Gathers};
 
 use super::body_word::BodyWord;
@@ -34,8 +34,8 @@ impl KeptFrame {
 impl BodyWord {
     ghost use Rattle.std.specs.Prelude.{◌≡◌, List, Some};
     ghost use Rattle.can_frame.specs.Frame.{FrameValue};
-    ghost use Rattle.can_bits.specs.declared.level.Level.{Level as Bus};
-    ghost use Rattle.can_bits.specs.Spelling.{Spells};
+    ghost use Rattle.can_levels.specs.declared.level.Level.{Level as Bus};
+    ghost use Rattle.can_levels.specs.Spelling.{Spells};
     ghost use Rattle.can_bits.specs.Inside.Gathering.{Gathers};
 
     /// The frame, once all levels have come, which may be kept where there is room for it.

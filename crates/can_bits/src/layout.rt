@@ -15,7 +15,7 @@
 //! | from 19 | data | from 39 | data |
 
 ghost use Rattle.std.specs.Prelude.{◌≡◌, ◌≤◌, ◌+◌};
-ghost use Rattle.can_bits.specs.Fields.{rtr_place, dlc_place};
+ghost use Rattle.can_levels.specs.Fields.{rtr_place, dlc_place};
 
 use can_frame::DATA_BYTES;
 

@@ -1,14 +1,14 @@
 //! The whole line of a frame, made.
 
 ghost use Rattle.std.specs.Prelude.{◌≡◌, ◌≤◌, ◌+◌, ◌++◌, IfOk, vec_len, vec_capacity};
-ghost use Rattle.can_bits.specs.Line.{IsSentLine, tail};
+ghost use Rattle.can_levels.specs.Line.{IsSentLine, tail};
 
 use super::crc::crc_of;
 use super::layout::CRC_LEVELS;
-use super::level::Level;
 use super::sent_body::{body_of, push_bits};
 use super::stuffing::push_stuffed;
 use can_frame::{Frame, OutOfMemory};
+use can_levels::Level;
 use std::alloc::Global;
 
 /// The most levels a line has: 118 before stuffing, a stuff bit after each four of them, and 10 after the stuffed part.

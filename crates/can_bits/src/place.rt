@@ -1,10 +1,10 @@
 //! The segments of a line, by place.
 
 ghost use Rattle.std.specs.Prelude.{◌≡◌, ◌≤◌, ◌-◌, ◌∷◌, [], true, false};
-ghost use Rattle.can_bits.specs.Segments.{segment_in, segments_of, segment_after};
+ghost use Rattle.can_levels.specs.Segments.{segment_in, segments_of, segment_after};
 
 use super::layout::CRC_LEVELS;
-use super::segment::Segment;
+use can_levels::Segment;
 
 /// The segment of the level at a place of a body and its CRC sequence, which have `count` levels in all.
 pub(crate) fn segment_of(ext: bool, count: u8, place: u8) -> Segment
@@ -28,7 +28,7 @@ fn standard_segment(count: u8, place: u8) -> Segment
 {
     match place {
         0..=14 => Segment::Reserved0,
-        15..=18 => Segment::LengthCode,
+        15..=18 => Segment::DataLengthCode,
         _ => late_segment(count, place),
     }
 }
@@ -45,7 +45,7 @@ fn extended_segment(count: u8, place: u8) -> Segment
         32 => Segment::RtrExtended,
         33 => Segment::Reserved1,
         34 => Segment::Reserved0,
-        35..=38 => Segment::LengthCode,
+        35..=38 => Segment::DataLengthCode,
         _ => late_segment(count, place),
     }
 }
@@ -57,7 +57,7 @@ fn late_segment(count: u8, place: u8) -> Segment
     if place < count.saturating_sub(CRC_LEVELS) {
         Segment::Data
     } else {
-        Segment::CheckSequence
+        Segment::CrcSequence
     }
 }
 
@@ -66,7 +66,7 @@ pub(crate) fn segment_after(n: u8) -> Segment
     ensures { result ≡ segment_after n }
 {
     match n {
-        0 => Segment::CheckDelimiter,
+        0 => Segment::CrcDelimiter,
         1 => Segment::AckSlot,
         2 => Segment::AckDelimiter,
         _ => Segment::EndOfFrame,

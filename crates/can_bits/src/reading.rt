@@ -2,15 +2,14 @@
 
 ghost use Rattle.std.specs.Prelude.{◌≡◌, ◌-◌, List, length, slice_set, IfOk, IfErr};
 ghost use Rattle.can_frame.specs.Frame.{FrameValue};
-ghost use Rattle.can_bits.specs.Line.{IsSentLine};
-ghost use Rattle.can_bits.specs.Reading.{IsReceived, IsFirstFault};
-ghost use Rattle.can_bits.specs.declared.level.Level.{Level as Bus};
-ghost use Rattle.can_bits.specs.declared.line_fault.LineFault.{LineFault as Fault};
+ghost use Rattle.can_levels.specs.Line.{IsSentLine};
+ghost use Rattle.can_levels.specs.Reading.{IsReceived, IsFirstFault};
+ghost use Rattle.can_levels.specs.declared.level.Level.{Level as Bus};
+ghost use Rattle.can_levels.specs.declared.line_fault.LineFault.{LineFault as Fault};
 
-use super::level::Level;
-use super::line_fault::LineFault;
 use super::shift::Shift;
 use can_frame::Frame;
+use can_levels::{Level, LineFault};
 
 /// The frame whose acknowledged line these levels are.
 ///

@@ -2,7 +2,7 @@
 
 ghost use Rattle.std.specs.Prelude.{◌≡◌, ◌≢◌, ◌<◌, ◌+◌};
 
-use super::level::Level;
+use can_levels::Level;
 
 /// How many levels like the last one end a list, with a level more.
 pub(crate) fn run_after(run: u8, last: Level, level: Level) -> u8

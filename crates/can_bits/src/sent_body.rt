@@ -2,12 +2,12 @@
 
 ghost use Rattle.std.specs.Prelude.{◌≡◌, ◌≤◌, ◌+◌, ◌++◌, length};
 ghost use Rattle.can_frame.specs.Frame.{IsFrame};
-ghost use Rattle.can_bits.specs.Digits.{bits};
-ghost use Rattle.can_bits.specs.Body.{sent_body};
+ghost use Rattle.can_levels.specs.Digits.{bits};
+ghost use Rattle.can_levels.specs.Body.{sent_body};
 
-use super::level::Level;
 use arrayvec::ArrayVec;
 use can_frame::Frame;
+use can_levels::Level;
 
 /// How many binary digits a word has.
 const WORD: u8 = 128;
@@ -26,10 +26,10 @@ impl SentBody {
     ghost use Rattle.std.specs.Prelude.{Some, nat_le, if◌then◌else◌};
     ghost use Rattle.std.specs.List.{slice_get};
     ghost use Rattle.can_frame.specs.Frame.{FrameValue, IsFrame};
-    ghost use Rattle.can_bits.specs.declared.level.Level.{Level as Bus};
-    ghost use Rattle.can_bits.specs.declared.level.Level.TheVariants.{Dominant, Recessive};
-    ghost use Rattle.can_bits.specs.Digits.{bits, level_of};
-    ghost use Rattle.can_bits.specs.Body.{head_bits, sent_body};
+    ghost use Rattle.can_levels.specs.declared.level.Level.{Level as Bus};
+    ghost use Rattle.can_levels.specs.declared.level.Level.TheVariants.{Dominant, Recessive};
+    ghost use Rattle.can_levels.specs.Digits.{bits, level_of};
+    ghost use Rattle.can_levels.specs.Body.{head_bits, sent_body};
     ghost use Rattle.can_bits.specs.Packing.{Packs, IsSentBody};
     ghost use Rattle.can_bits.specs.Sending.{AgreeFor, BothHave, packed_level, sent_length};
 

@@ -3,13 +3,9 @@
 use super::body_word::BodyWord;
 use super::frame_part::FramePart;
 use super::kept_frame::KeptFrame;
-use super::level::Level;
-use super::line_fault::LineFault;
 use super::place::segment_after;
-use super::segment::Segment;
-use super::shift_event::ShiftEvent;
-use super::shift_fault::ShiftFault;
 use can_frame::Frame;
+use can_levels::{Level, LineFault, Segment, ShiftEvent, ShiftFault};
 
 mod acknowledged_line;
 mod inside;
@@ -48,14 +44,15 @@ pub struct Shift {
 impl Shift {
     ghost use Rattle.std.specs.Prelude.{◌≡◌, ◌<◌, ◌+◌, ◌↔◌, ◌==◌, Bool, IsTrue, true};
     ghost use Rattle.std.specs.Prelude.{length, ◌∷◌, ◌++◌, [], List, None, Some};
-    ghost use Rattle.can_bits.specs.declared.level.Level.{Level as Bus};
-    ghost use Rattle.can_bits.specs.Streaming.{Tells, TellsCheck, ShowsFrame, IsReadable, IsOver};
-    ghost use Rattle.can_bits.specs.Segments.{IsNext};
-    ghost use Rattle.can_bits.specs.Acknowledging.{IsAckDue};
-    ghost use Rattle.can_bits.specs.Line.{StuffedPart};
+    ghost use Rattle.can_levels.specs.declared.level.Level.{Level as Bus};
+    ghost use Rattle.can_levels.specs.Streaming.{Tells, TellsCheck, ShowsFrame, IsReadable, IsOver};
+    ghost use Rattle.can_levels.specs.Segments.{IsNext};
+    ghost use Rattle.can_levels.specs.Acknowledging.{IsAckDue};
+    ghost use Rattle.can_levels.specs.Line.{StuffedPart};
     ghost use Rattle.can_frame.specs.Frame.{FrameValue};
     ghost use Rattle.can_bits.specs.Inside.FrameParts.{IsPast, is_stuff_next};
-    ghost use Rattle.can_bits.specs.Shifts.{StandsFor, JudgesAt};
+    ghost use Rattle.can_bits.specs.Shifts.{StandsFor};
+    ghost use Rattle.can_levels.specs.Judgements.{JudgesAt};
 
     /// A reader that has been given no level.
     pub fn new() -> Shift

@@ -1,9 +1,9 @@
 //! Stuff bits, put in.
 
 ghost use Rattle.std.specs.Prelude.{◌≡◌, ◌≤◌, ◌+◌, ◌*◌, [], length, vec_capacity};
-ghost use Rattle.can_bits.specs.Stuffing.{Stuffed};
+ghost use Rattle.can_levels.specs.Stuffing.{Stuffed};
 
-use super::level::Level;
+use can_levels::Level;
 
 /// How many equal levels a stuff bit follows.
 const RUN: u8 = 5;

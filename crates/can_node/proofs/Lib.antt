@@ -1,12 +1,4 @@
-pub mod Rules
-pub mod Bits
-pub mod Reception
 pub mod Transmission
 pub mod Waiting
-pub mod OneCut
-pub mod Contending
 pub mod Machine
-pub mod Examples
-pub mod Requests
-pub mod Driven
 pub mod CutRecords

@@ -10,7 +10,6 @@ pub mod FrameStarts
 pub mod IdleTurns
 pub mod Sampling
 pub mod BitStands
-pub mod Changes
 pub mod Held
 pub mod Told
 pub mod Sampled
@@ -18,7 +17,6 @@ pub mod SampleSteps
 pub mod Segments
 pub mod Places
 pub mod Shown
-pub mod Along
 pub mod Quiet
 pub mod QuietOutside
 pub mod QuietReceiver

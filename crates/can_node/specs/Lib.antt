@@ -1,30 +1,23 @@
 -- ---- a record: what happened to a node
-pub mod Bits
-pub mod Record
-pub mod BetweenBits
 -- ---- the pieces of a record: what each is, where it may stand, what follows it
-pub mod Pieces
-pub mod Context
-pub mod Frames
-pub mod Table
 -- ---- what bits, other entries and the ends of pieces change
-pub mod Counting
-pub mod Effects
 -- ---- the cut of a record into pieces
-pub mod FinishedPieces
-pub mod Cut
 -- ---- what the cut says of the next bit, and what that bit tells
-pub mod Driving
-pub mod NextBit
-pub mod Events
 -- ---- a node that stands at a record, and what its calls do
 pub mod Stands
 pub mod Together
 pub mod NextField
 pub mod NextPlace
+pub mod Stages
+pub mod Standing
 -- ---- frames that start together
-pub mod Contending
 -- ---- a record worked by hand
-pub mod WorkedReception
 -- ---- how the code keeps a cut: definitions of the private contracts alone
 pub mod Inside
+
+-- ---- the face: the lemmas that proofs of other crates cite
+-- face: proofs.Machine.Ats.{at_is}
+-- face: proofs.Machine.Following.{reads_only, sent_none}
+-- face: proofs.Machine.Quiet.{IsQuiet, quietly}
+-- face: proofs.Machine.QuietOutside.{idle_quietly}
+-- face: proofs.Machine.Shown.{phase_shown}

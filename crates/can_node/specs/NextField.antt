@@ -1,22 +1,22 @@
 -- What the cut of a record says of the next bit beside its phase: role, request, flag, and the segment of the frame
 -- that is on the bus (this project's own rule).
 use Rattle.std.specs.Prelude.{◌≡◌, Bool, Option, Some, None, List, [], ◌∷◌}
-use Rattle.can_bits.specs.declared.level.Level.{Level}
-use Rattle.can_bits.specs.declared.level.Level.TheVariants.{Dominant}
-use Rattle.can_bits.specs.declared.segment.Segment.{Segment}
-use Rattle.can_bits.specs.declared.segment.Segment.TheVariants.{EndOfFrame}
-use Rattle.can_bits.specs.Segments.{IsNext}
-use Rattle.can_node.specs.declared.flag_kind.FlagKind.{FlagKind}
-use Rattle.can_node.specs.declared.request.Request.{Request}
+use Rattle.can_levels.specs.declared.level.Level.{Level}
+use Rattle.can_levels.specs.declared.level.Level.TheVariants.{Dominant}
+use Rattle.can_levels.specs.declared.segment.Segment.{Segment}
+use Rattle.can_levels.specs.declared.segment.Segment.TheVariants.{EndOfFrame}
+use Rattle.can_levels.specs.Segments.{IsNext}
+use Rattle.can_node_rules.specs.declared.flag_kind.FlagKind.{FlagKind}
+use Rattle.can_node_rules.specs.declared.request.Request.{Request}
 use Rattle.can_node.specs.declared.node.Node.{Node}
-use Rattle.can_node.specs.Bits.{Bit, seen_of}
-use Rattle.can_node.specs.Context.{is_transmitter}
-use Rattle.can_node.specs.Pieces.{Place}
-use Rattle.can_node.specs.Pieces.Place.{AtReset, AtIntegration, AtIdle, AfterSof}
-use Rattle.can_node.specs.Pieces.Place.{AtLastEofBit, AtFlag, AtDelimiter, AtInterframeSpace}
-use Rattle.can_node.specs.Record.{RecordEntry}
-use Rattle.can_node.specs.Cut.{FinishedPiece, IsCut}
-use Rattle.can_node.specs.NextBit.{now_in, open_bits}
+use Rattle.can_node_rules.specs.Bits.{Bit, seen_of}
+use Rattle.can_node_rules.specs.Context.{is_transmitter}
+use Rattle.can_node_rules.specs.Pieces.{Place}
+use Rattle.can_node_rules.specs.Pieces.Place.{AtReset, AtIntegration, AtIdle, AfterSof}
+use Rattle.can_node_rules.specs.Pieces.Place.{AtLastEofBit, AtFlag, AtDelimiter, AtInterframeSpace}
+use Rattle.can_node_rules.specs.Record.{RecordEntry}
+use Rattle.can_node_rules.specs.Cut.{FinishedPiece, IsCut}
+use Rattle.can_node_rules.specs.NextBit.{now_in, open_bits}
 use Rattle.can_node.specs.Stands.{StandsAt}
 
 -- the segment of the next level after these levels of a line (SJA1000 data sheet, 6.4.9)

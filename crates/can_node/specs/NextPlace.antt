@@ -2,25 +2,25 @@
 -- 6.4.9).
 use Rattle.std.specs.Prelude.{◌≡◌, ◌==◌, ◌+◌, ◌&&◌, ℕ, Bool, false, nat_lt, is_some, if◌then◌else◌}
 use Rattle.std.specs.Prelude.{Option, Some, None, List, [], ◌∷◌, length}
-use Rattle.can_bits.specs.declared.level.Level.{Level}
-use Rattle.can_bits.specs.declared.level.Level.TheVariants.{Dominant}
-use Rattle.can_bits.specs.declared.segment.Segment.TheVariants.{RtrStandard, EndOfFrame}
-use Rattle.can_bits.specs.declared.frame_place.FramePlace.{FramePlace}
-use Rattle.can_bits.specs.declared.frame_place.FramePlace.TheVariants.{Plain, StuffBit}
-use Rattle.can_bits.specs.FramePlaces.{IsNextPlace}
-use Rattle.can_bits.specs.Segments.{code_of}
+use Rattle.can_levels.specs.declared.level.Level.{Level}
+use Rattle.can_levels.specs.declared.level.Level.TheVariants.{Dominant}
+use Rattle.can_levels.specs.declared.segment.Segment.TheVariants.{RtrStandard, EndOfFrame}
+use Rattle.can_levels.specs.declared.frame_place.FramePlace.{FramePlace}
+use Rattle.can_levels.specs.declared.frame_place.FramePlace.TheVariants.{Plain, StuffBit}
+use Rattle.can_levels.specs.FramePlaces.{IsNextPlace}
+use Rattle.can_levels.specs.Segments.{code_of}
 use Rattle.can_node.specs.declared.node.Node.{Node}
-use Rattle.can_node.specs.declared.node_place.NodePlace.{NodePlace}
-use Rattle.can_node.specs.declared.node_place.NodePlace.TheVariants.{Start, Substitute, InFrame, Intermission}
-use Rattle.can_node.specs.declared.request.Request.{Request}
-use Rattle.can_node.specs.Bits.{Bit, seen_of}
-use Rattle.can_node.specs.Context.{ContextValue, is_transmitter}
-use Rattle.can_node.specs.Pieces.{Place, sent_at}
-use Rattle.can_node.specs.Pieces.Place.{AtReset, AtIntegration, AtIdle, AfterSof}
-use Rattle.can_node.specs.Pieces.Place.{AtLastEofBit, AtFlag, AtDelimiter, AtInterframeSpace}
-use Rattle.can_node.specs.Record.{RecordEntry}
-use Rattle.can_node.specs.Cut.{FinishedPiece, IsCut}
-use Rattle.can_node.specs.NextBit.{now_in, open_bits}
+use Rattle.can_node_rules.specs.declared.node_place.NodePlace.{NodePlace}
+use Rattle.can_node_rules.specs.declared.node_place.NodePlace.TheVariants.{Start, Srr, InFrame, Intermission}
+use Rattle.can_node_rules.specs.declared.request.Request.{Request}
+use Rattle.can_node_rules.specs.Bits.{Bit, seen_of}
+use Rattle.can_node_rules.specs.Context.{ContextValue, is_transmitter}
+use Rattle.can_node_rules.specs.Pieces.{Place, sent_at}
+use Rattle.can_node_rules.specs.Pieces.Place.{AtReset, AtIntegration, AtIdle, AfterSof}
+use Rattle.can_node_rules.specs.Pieces.Place.{AtLastEofBit, AtFlag, AtDelimiter, AtInterframeSpace}
+use Rattle.can_node_rules.specs.Record.{RecordEntry}
+use Rattle.can_node_rules.specs.Cut.{FinishedPiece, IsCut}
+use Rattle.can_node_rules.specs.NextBit.{now_in, open_bits}
 use Rattle.can_node.specs.Stands.{StandsAt}
 
 -- ---- a frame
@@ -40,7 +40,7 @@ is_first_remote (StuffBit number) = false
 
 -- who sends an extended frame knows that the bit is SRR; a receiver doesn't know the format there
 abbrev pub in_frame : Bool → FramePlace → NodePlace
-in_frame extended place = if is_first_remote place && extended then Substitute else InFrame place
+in_frame extended place = if is_first_remote place && extended then Srr else InFrame place
 
 -- the place of the next level after these levels of a line
 pub record IsAfter (extended : Bool) (l : List Level) (shown : Option NodePlace) : Type 0 where

@@ -1,18 +1,16 @@
 -- A node that stands at a record, and what its calls do (this project's own rule).
-use Rattle.std.specs.Prelude.{⊤, ◌≡◌, ◌≢◌, ◌⊎◌, ◌||◌, not, Bool, true, false, nat_le, nat_lt}
-use Rattle.std.specs.Prelude.{if◌then◌else◌, Option, Some, None, Result, Ok, Err, List, [], ◌∷◌, ◌++◌}
-use Rattle.can_bits.specs.declared.level.Level.{Level}
-use Rattle.can_node.specs.declared.request.Request.{Request}
-use Rattle.can_node.specs.declared.abort_outcome.AbortOutcome.{AbortOutcome}
-use Rattle.can_node.specs.declared.abort_outcome.AbortOutcome.TheVariants.{Unchanged, Marked, Dropped}
-use Rattle.can_node.specs.declared.phase.Phase.{Phase}
-use Rattle.can_node.specs.declared.counters.Counters.{Counters}
-use Rattle.can_node.specs.declared.state.State.{State}
-use Rattle.can_node.specs.declared.state.State.TheVariants.{Active, Passive, BusOff}
-use Rattle.can_node.specs.declared.bit_events.BitEvents.{BitEvents}
-use Rattle.can_node.specs.declared.phase.Phase.TheVariants.{Reset, Waiting, Idle as IdlePhase}
-use Rattle.can_node.specs.declared.phase.Phase.TheVariants.{Frame as FramePhase, Flag as FlagPhase}
-use Rattle.can_node.specs.declared.phase.Phase.TheVariants.{Delimiter as DelimiterPhase, Intermission, Suspension}
+use Rattle.std.specs.Prelude.{⊤, ◌≡◌, ◌≢◌, ◌⊎◌, not, Bool, true, false, nat_lt}
+use Rattle.std.specs.Prelude.{if◌then◌else◌, None, Result, Ok, Err, List, [], ◌∷◌, ◌++◌}
+use Rattle.can_levels.specs.declared.level.Level.{Level}
+use Rattle.can_node_rules.specs.declared.request.Request.{Request}
+use Rattle.can_node_rules.specs.declared.abort_outcome.AbortOutcome.{AbortOutcome}
+use Rattle.can_node_rules.specs.declared.abort_outcome.AbortOutcome.TheVariants.{Unchanged, Marked, Dropped}
+use Rattle.can_node_rules.specs.declared.phase.Phase.{Phase}
+use Rattle.can_node_rules.specs.declared.counters.Counters.{Counters}
+use Rattle.can_node_rules.specs.declared.bit_events.BitEvents.{BitEvents}
+use Rattle.can_node_rules.specs.declared.phase.Phase.TheVariants.{Reset, Waiting, Idle as IdlePhase}
+use Rattle.can_node_rules.specs.declared.phase.Phase.TheVariants.{Frame as FramePhase, Flag as FlagPhase}
+use Rattle.can_node_rules.specs.declared.phase.Phase.TheVariants.{Delimiter as DelimiterPhase, Intermission, Suspension}
 use Rattle.can_node.specs.declared.stage.Stage.{Stage}
 use Rattle.can_node.specs.declared.stage.Stage.TheVariants.{InReset as StageInReset, Integrating as StageIntegrating}
 use Rattle.can_node.specs.declared.stage.Stage.TheVariants.{BusIdle as StageBusIdle, InFrame as StageInFrame}
@@ -20,18 +18,18 @@ use Rattle.can_node.specs.declared.stage.Stage.TheVariants.{LastEofBit as StageL
 use Rattle.can_node.specs.declared.stage.Stage.TheVariants.{InDelimiter as StageInDelimiter}
 use Rattle.can_node.specs.declared.stage.Stage.TheVariants.{InInterframeSpace as StageInInterframeSpace}
 use Rattle.can_node.specs.declared.node.Node.{Node}
-use Rattle.can_node.specs.Bits.{Bit}
-use Rattle.can_node.specs.Context.{is_held, is_transmitter}
-use Rattle.can_node.specs.Pieces.Place.{AtReset}
-use Rattle.can_node.specs.Record.{RecordEntry}
-use Rattle.can_node.specs.Record.RecordEntry.{OneBit, Send, Abort, BusOff}
-use Rattle.can_node.specs.Effects.{is_in_progress}
-use Rattle.can_node.specs.Cut.{FinishedPiece, IsCut, Count, none_yet, counted, tagged}
-use Rattle.can_node.specs.Events.{Step, events_of}
-use Rattle.can_node.specs.Events.Step.{Within, Finishes}
-use Rattle.can_node.specs.NextBit.{now_in, open_bits, phase_in, DrivesIn, is_at_rest}
-use Rattle.can_node.specs.Inside.Standing.{context_of, HasBody}
-use Rattle.can_node.specs.Inside.Stages.{At}
+use Rattle.can_node_rules.specs.Bits.{Bit}
+use Rattle.can_node_rules.specs.Context.{is_held, is_transmitter}
+use Rattle.can_node_rules.specs.Pieces.Place.{AtReset}
+use Rattle.can_node_rules.specs.Record.{RecordEntry}
+use Rattle.can_node_rules.specs.Record.RecordEntry.{OneBit, Send, Abort}
+use Rattle.can_node_rules.specs.Effects.{is_in_progress}
+use Rattle.can_node_rules.specs.Cut.{FinishedPiece, IsCut, none_yet, counted}
+use Rattle.can_node_rules.specs.Events.{Step, events_of}
+use Rattle.can_node_rules.specs.NextBit.{now_in, open_bits, phase_in, DrivesIn, is_at_rest}
+use Rattle.can_node.specs.Standing.{context_of, HasBody}
+use Rattle.can_node.specs.Stages.{At}
+use Rattle.can_node_rules.specs.Outcomes.{entries_of, closed_by, nothing, abort_of}
 
 -- by its fields the node stands at this record, cut into these finished pieces, with a piece perhaps that isn't
 -- finished at its end: they say the context of the next bit, and how far that piece has come
@@ -47,15 +45,6 @@ pub record StandsAt (node : Node) (entries : List RecordEntry) (found : List Fin
   pub at : At node.stage node.shift cut.context (now_in cut) cut.place (open_bits cut)
   pub next : DrivesIn cut node.next
   pub body : HasBody node.context node.body
-
--- the entries that a bit adds: its own, and that of bus-off
-abbrev pub entries_of : Bit → BitEvents → List RecordEntry
-entries_of b e = if e.went_off then OneBit b ∷ BusOff ∷ [] else OneBit b ∷ []
-
--- the piece that a bit finished, with its activation and the number of bits up to its end
-abbrev pub closed_by : Count → Step → List FinishedPiece
-closed_by k Within = []
-closed_by k (Finishes piece next) = tagged k (piece ∷ [])
 
 -- one bit leads from a record to the record with it, and tells what the cut has there
 pub record Leads (node new : Node) (entries : List RecordEntry) (found : List FinishedPiece)
@@ -113,18 +102,6 @@ pub record ShowsSame (old new : Node) : Type 0 where
   pub receiving : is_receiving new ≡ is_receiving old
   pub holds : holds_request new ≡ holds_request old
 
--- what a bit tells in which nothing happened, to a receiver or not
-abbrev pub nothing : Bool → BitEvents
-nothing receiving = record {
-  received = None;
-  ended = None;
-  lost = None;
-  fault = None;
-  receiving = receiving;
-  went_off = false;
-  recovered = false;
-}
-
 -- ---- what the calls do, for every record that the node stands at
 
 -- with one entry more, and the same pieces
@@ -160,17 +137,6 @@ ShowsCounters node result =
     (entries : List RecordEntry) (found : List FinishedPiece) (h : StandsAt node entries found) →
     let c = now_in h.cut in (result.tec ≡ c.tec) × (result.rec ≡ c.rec) × (result.off ≡ c.off)
 
--- two cuts of a record are one: the same finished pieces, context and place, and the same entries of a piece that isn't
--- finished
-abbrev pub HasOneCut : List RecordEntry → Type 0
-HasOneCut entries =
-    (found others : List FinishedPiece) (h : IsCut entries found) (k : IsCut entries others) →
-    (found ≡ others) × (h.context ≡ k.context) × (h.place ≡ k.place) × (h.rest ≡ k.rest)
-
--- bus-off, else passive from 128 on, else active
-abbrev pub state_of : Counters → State
-state_of k = if k.off then BusOff else if nat_le 128 k.tec || nat_le 128 k.rec then Passive else Active
-
 abbrev pub ShowsRest : Node → Bool → Type 0
 ShowsRest node result = (entries : List RecordEntry) (found : List FinishedPiece) (h : StandsAt node entries found) →
     result ≡ is_at_rest h.cut
@@ -183,12 +149,6 @@ Requests old new request (Ok done) = Enters old new (Send request)
 Requests old new request (Err back) = (back ≡ request) × (new ≡ old)
     × ((entries : List RecordEntry) (found : List FinishedPiece) (h : StandsAt old entries found) →
     (h.cut.place ≡ AtReset) ⊎ (is_held (now_in h.cut).held ≡ true))
-
--- a request in progress is marked, unless it would be dropped where it fails or loses anyway; any other is dropped
-abbrev pub abort_of : Bool → Option Request → Bool → AbortOutcome
-abort_of in_progress None marked = Unchanged
-abort_of true (Some request) marked = if request.single_shot || marked then Unchanged else Marked
-abort_of false (Some request) marked = Dropped
 
 -- an abort that changed nothing enters nothing
 abbrev pub EntersAbort : Node → Node → AbortOutcome → Type 0

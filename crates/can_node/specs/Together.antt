@@ -2,19 +2,20 @@
 -- receives or sends what is the same so far. So one reader does for both while the frame's stuffed part goes on, and
 -- for a node in reset, to which no level matters (this project's own rule).
 use Rattle.std.specs.Prelude.{◌≡◌, ◌+◌, ◌⊎◌, ◌&&◌, ℕ, Bool, true, false, List, [], ◌∷◌, ◌++◌}
-use Rattle.can_bits.specs.declared.level.Level.{Level}
-use Rattle.can_bits.specs.declared.level.Level.TheVariants.{Recessive}
+use Rattle.can_levels.specs.declared.level.Level.{Level}
+use Rattle.can_levels.specs.declared.level.Level.TheVariants.{Recessive}
 use Rattle.can_bits.specs.declared.shift.Shift.{Shift}
 use Rattle.can_bits.specs.declared.sent_body.SentBody.{SentBody}
 use Rattle.can_bits.specs.Sending.{AgreeFor, TakesInside, next_level, place_of}
 use Rattle.can_bits.specs.Shifts.{StandsFor}
-use Rattle.can_bits.specs.Streaming.{IsRightInside}
+use Rattle.can_levels.specs.Streaming.{IsRightInside}
 use Rattle.can_node.specs.declared.node.Node.{Node}
-use Rattle.can_node.specs.declared.role.Role.TheVariants.{Receiver}
+use Rattle.can_node_rules.specs.declared.role.Role.TheVariants.{Receiver}
 use Rattle.can_node.specs.declared.stage.Stage.{Stage}
 use Rattle.can_node.specs.declared.stage.Stage.TheVariants.{InFrame}
-use Rattle.can_node.specs.Context.{is_transmitter}
-use Rattle.can_node.specs.Stands.{InReset, Samples, ShowsSame, is_receiving, nothing}
+use Rattle.can_node_rules.specs.Context.{is_transmitter}
+use Rattle.can_node.specs.Stands.{InReset, Samples, ShowsSame, is_receiving}
+use Rattle.can_node_rules.specs.Outcomes.{nothing}
 
 -- ---- what a node shows, at whatever record it stands
 

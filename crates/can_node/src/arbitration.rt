@@ -1,18 +1,19 @@
 //! Lost arbitration (Bosch CAN 2.0 part A section 3.1.1).
 use super::context::Context;
 use super::node::Node;
-use super::role::Role;
 use super::stage::Stage;
-use can_bits::Level;
+use can_levels::Level;
+use can_node_rules::Role;
 
 impl Node {
     ghost use Rattle.std.specs.Prelude.{◌≡◌, List};
-    ghost use Rattle.can_node.specs.Bits.{Bit};
-    ghost use Rattle.can_node.specs.Context.{ContextValue};
-    ghost use Rattle.can_node.specs.Pieces.{Place};
-    ghost use Rattle.can_node.specs.Events.{lost_in};
-    ghost use Rattle.can_node.specs.Inside.Standing.{context_of, IsKept};
-    ghost use Rattle.can_node.specs.Inside.Stages.{At, IsReading};
+    ghost use Rattle.can_node_rules.specs.Bits.{Bit};
+    ghost use Rattle.can_node_rules.specs.Context.{ContextValue};
+    ghost use Rattle.can_node_rules.specs.Pieces.{Place};
+    ghost use Rattle.can_node_rules.specs.Events.{lost_in};
+    ghost use Rattle.can_node.specs.Standing.{context_of};
+    ghost use Rattle.can_node_rules.specs.KeptContexts.{IsKept};
+    ghost use Rattle.can_node.specs.Stages.{At, IsReading};
 
     /// The place code where a transmitter loses arbitration in this bit (SJA1000 data sheet, 6.4.8).
     pub(crate) fn lost_arbitration(&self, driven: Level, seen: Level) -> Option<u8>
@@ -51,10 +52,10 @@ impl Node {
 
 impl Context {
     ghost use Rattle.std.specs.Prelude.{◌≡◌, List, is_some};
-    ghost use Rattle.can_bits.specs.declared.level.Level.{Level as Bus};
-    ghost use Rattle.can_node.specs.declared.role.Role.TheVariants.{Transmitter};
-    ghost use Rattle.can_node.specs.Counting.{frame_bit, lost_by, lose};
-    ghost use Rattle.can_node.specs.Inside.Standing.{context_of};
+    ghost use Rattle.can_levels.specs.declared.level.Level.{Level as Bus};
+    ghost use Rattle.can_node_rules.specs.declared.role.Role.TheVariants.{Transmitter};
+    ghost use Rattle.can_node_rules.specs.Counting.{frame_bit, lost_by, lose};
+    ghost use Rattle.can_node.specs.Standing.{context_of};
 
     /// A bit of a frame, in which arbitration was lost or not: who loses goes on as receiver, and a receiver may have
     /// acknowledged.

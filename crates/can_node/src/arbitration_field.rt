@@ -9,12 +9,12 @@
 //! | 31 | | RTR |
 
 ghost use Rattle.std.specs.Prelude.{◌≡◌, ◌==◌, ◌/◌, ◌%◌, ◌^◌, ◌<◌, ◌∷◌, ◌++◌, [], slice_get};
-ghost use Rattle.can_bits.specs.Digits.{bits, level_of};
-ghost use Rattle.can_node.specs.Contending.{arbitration_field};
-ghost use Rattle.can_bits.specs.declared.level.Level.TheVariants.{Dominant, Recessive};
+ghost use Rattle.can_levels.specs.Digits.{bits, level_of};
+ghost use Rattle.can_node_rules.specs.Contending.{arbitration_field};
+ghost use Rattle.can_levels.specs.declared.level.Level.TheVariants.{Dominant, Recessive};
 
-use can_bits::Level;
 use can_frame::Frame;
+use can_levels::Level;
 
 /// How many levels the longest arbitration field has.
 pub(crate) const LONGEST_FIELD: u8 = 32;

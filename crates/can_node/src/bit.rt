@@ -3,32 +3,31 @@ ghost use Rattle.std.specs.Prelude.{◌≡◌, ◌&&◌, not};
 ghost use Rattle.can_node.specs.Inside.Turns.{after_last_eof};
 
 use super::after_bit::AfterBit;
-use super::bit_events::BitEvents;
 use super::bus_integration::after_integration_bit;
 use super::context::Context;
-use super::counters::BUS_OFF;
 use super::delimiter::{after_delimiter_bit, is_eighth, is_first};
 use super::ending::Ending;
 use super::interframe_space::after_interframe_bit;
 use super::node::Node;
 use super::overload_condition::OverloadCondition;
 use super::receive::receive;
-use super::role::Role;
 use super::stage::Stage;
 use super::transmit::transmit;
-use can_bits::{KeptFrame, Level, Shift};
+use can_bits::{KeptFrame, Shift};
+use can_levels::Level;
+use can_node_rules::{BUS_OFF, BitEvents, Role};
 
 impl Node {
     ghost use Rattle.std.specs.Prelude.{◌≡◌, [], None, IsTrue};
-    ghost use Rattle.can_node.specs.declared.role.Role.TheVariants.{Receiver};
+    ghost use Rattle.can_node_rules.specs.declared.role.Role.TheVariants.{Receiver};
     ghost use Rattle.can_bits.specs.Shifts.{StandsFor};
-    ghost use Rattle.can_node.specs.Bits.{recessive_bit};
-    ghost use Rattle.can_node.specs.Pieces.{sent_at};
-    ghost use Rattle.can_node.specs.Pieces.Place.{AtIdle};
-    ghost use Rattle.can_node.specs.Driving.{Drives};
-    ghost use Rattle.can_node.specs.Inside.Standing.{context_of, HasBody};
+    ghost use Rattle.can_node_rules.specs.Bits.{recessive_bit};
+    ghost use Rattle.can_node_rules.specs.Pieces.{sent_at};
+    ghost use Rattle.can_node_rules.specs.Pieces.Place.{AtIdle};
+    ghost use Rattle.can_node_rules.specs.Driving.{Drives};
+    ghost use Rattle.can_node.specs.Standing.{context_of, HasBody};
     ghost use Rattle.can_node.specs.Stands.{InReset, Samples};
-    ghost use Rattle.can_node.specs.Inside.Stages.{At, IsReading};
+    ghost use Rattle.can_node.specs.Stages.{At, IsReading};
     ghost use Rattle.can_node.specs.Inside.Turns.{IsTurn, TurnsFrom};
 
     /// Sees the level of the bus in this bit, as [`sample`](Node::sample) does, by the general way alone: for a bit
@@ -159,13 +158,13 @@ impl Node {
 impl Context {
     ghost use Rattle.std.specs.Prelude.{◌≡◌, ◌<◌, List, is_some};
     ghost use Rattle.can_bits.specs.declared.shift.Shift.{Shift as Reader};
-    ghost use Rattle.can_node.specs.Bits.{Bit};
-    ghost use Rattle.can_node.specs.Context.{ContextValue};
-    ghost use Rattle.can_node.specs.Pieces.{Place};
-    ghost use Rattle.can_node.specs.Counting.{at_bit};
-    ghost use Rattle.can_node.specs.Events.{lost_in};
-    ghost use Rattle.can_node.specs.Inside.Standing.{context_of};
-    ghost use Rattle.can_node.specs.Inside.Stages.{At};
+    ghost use Rattle.can_node_rules.specs.Bits.{Bit};
+    ghost use Rattle.can_node_rules.specs.Context.{ContextValue};
+    ghost use Rattle.can_node_rules.specs.Pieces.{Place};
+    ghost use Rattle.can_node_rules.specs.Counting.{at_bit};
+    ghost use Rattle.can_node_rules.specs.Events.{lost_in};
+    ghost use Rattle.can_node.specs.Standing.{context_of};
+    ghost use Rattle.can_node.specs.Stages.{At};
 
     /// The steps of the bit itself in counters, role and request, by the node's stage; arbitration is lost in it or
     /// not.

@@ -1,15 +1,16 @@
 //! Bus integration: a node that starts waits for the bus (Bosch CAN 2.0 part A section 7, ISO 11898-1).
 ghost use Rattle.std.specs.Prelude.{List};
-ghost use Rattle.can_node.specs.Bits.{Bit, recessive_bit};
-ghost use Rattle.can_node.specs.Context.{ContextValue};
-ghost use Rattle.can_node.specs.Pieces.Place.{AtIntegration};
-ghost use Rattle.can_node.specs.Inside.Stages.{IsIntegrating};
+ghost use Rattle.can_node_rules.specs.Bits.{Bit, recessive_bit};
+ghost use Rattle.can_node_rules.specs.Context.{ContextValue};
+ghost use Rattle.can_node_rules.specs.Pieces.Place.{AtIntegration};
+ghost use Rattle.can_node_rules.specs.UnfinishedPieces.{IsIntegrating};
 ghost use Rattle.can_node.specs.Inside.Turns.{IsTurn};
 
 use super::after_bit::AfterBit;
 use super::ending::Ending;
 use super::stage::Stage;
-use can_bits::{Level, Shift};
+use can_bits::Shift;
+use can_levels::Level;
 
 /// The last of eleven successive recessive levels has this number, from 0.
 const LAST_OF_ELEVEN: u8 = 10;

@@ -1,7 +1,7 @@
 //! Bus-off, and the error counters that a start takes (Bosch CAN 2.0 part A section 7; SJA1000 data sheet, 6.4.11 and
 //! 6.4.12).
 use super::context::Context;
-use super::counters::Counters;
+use can_node_rules::Counters;
 
 /// TEC from bus-off on; REC is 0 then (SJA1000 data sheet, 6.4.12).
 const TEC_BUS_OFF: u16 = 127;
@@ -14,9 +14,9 @@ const TEC_HIGHEST: u8 = 254;
 
 impl Context {
     ghost use Rattle.std.specs.Prelude.{◌≡◌};
-    ghost use Rattle.can_node.specs.Context.{integration_count};
-    ghost use Rattle.can_node.specs.Effects.{with_off, with_tec, with_rec, recounted};
-    ghost use Rattle.can_node.specs.Inside.Standing.{context_of};
+    ghost use Rattle.can_node_rules.specs.Context.{integration_count};
+    ghost use Rattle.can_node_rules.specs.Effects.{with_off, with_tec, with_rec, recounted};
+    ghost use Rattle.can_node.specs.Standing.{context_of};
 
     /// Goes bus-off: the request is dropped, TEC reads 127 and REC 0.
     pub(crate) fn go_off(&mut self)

@@ -2,11 +2,11 @@
 
 ghost use Rattle.std.specs.Prelude.{◌≡◌, ◌<◌, ◌↔◌, ℕ, IfOk, IsTrue, MatchOption, length, slice_get};
 ghost use Rattle.can_frame.specs.Frame.{FrameValue};
-ghost use Rattle.can_node.specs.Contending.{arbitration_field, IsContention, IsLeast, LosesAt};
+ghost use Rattle.can_node_rules.specs.Contending.{arbitration_field, IsContention, IsLeast, LosesAt};
 
 use super::arbitration_field::{LONGEST_FIELD, field_level};
-use can_bits::Level;
 use can_frame::{Frame, OutOfMemory};
+use can_levels::Level;
 use std::alloc::Global;
 
 /// What becomes of these frames if their transmitters start together on one bus: for each, in order, the place code

@@ -1,10 +1,6 @@
 //! What a node knows of itself beside the piece under way.
-use super::config::Config;
-use super::counters::Counters;
-use super::flag_kind::FlagKind;
-use super::request::Request;
-use super::role::Role;
-use can_bits::Level;
+use can_levels::Level;
+use can_node_rules::{Config, Counters, FlagKind, Request, Role};
 
 /// The context of a node's next bit: configuration, request, role, error counters and flag. How far the piece under way
 /// has come is the [`Stage`](super::stage::Stage)'s.
@@ -25,12 +21,12 @@ pub(crate) struct Context {
 
 impl Context {
     ghost use Rattle.std.specs.Prelude.{◌≡◌, ◌||◌, is_some, Some, None, false};
-    ghost use Rattle.can_node.specs.Context.{fresh, is_transmitter, owes_suspension, flag_level};
-    ghost use Rattle.can_node.specs.Pieces.{sent_at};
-    ghost use Rattle.can_node.specs.Pieces.Place.{AtIdle};
-    ghost use Rattle.can_node.specs.Effects.{with_start, with_stop, role_after_sof};
-    ghost use Rattle.can_node.specs.Counting.{drop_failed, first_bit};
-    ghost use Rattle.can_node.specs.Inside.Standing.{context_of};
+    ghost use Rattle.can_node_rules.specs.Context.{fresh, is_transmitter, owes_suspension, flag_level};
+    ghost use Rattle.can_node_rules.specs.Pieces.{sent_at};
+    ghost use Rattle.can_node_rules.specs.Pieces.Place.{AtIdle};
+    ghost use Rattle.can_node_rules.specs.Effects.{with_start, with_stop, role_after_sof};
+    ghost use Rattle.can_node_rules.specs.Counting.{drop_failed, first_bit};
+    ghost use Rattle.can_node.specs.Standing.{context_of};
 
     /// Before anything happened.
     pub(crate) fn new() -> Context

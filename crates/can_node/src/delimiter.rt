@@ -1,19 +1,19 @@
 //! Error delimiters and overload delimiters: what ends an error frame or overload frame after its flag (Bosch CAN 2.0
 //! part A sections 3.1.3 and 3.1.4).
 ghost use Rattle.std.specs.Prelude.{◌≡◌, ◌==◌, ◌&&◌, List};
-ghost use Rattle.can_node.specs.Bits.{Bit, recessive_bit};
-ghost use Rattle.can_node.specs.Context.{ContextValue};
-ghost use Rattle.can_node.specs.Pieces.Place.{AtDelimiter};
-ghost use Rattle.can_node.specs.Inside.Stages.{IsInDelimiter};
+ghost use Rattle.can_node_rules.specs.Bits.{Bit, recessive_bit};
+ghost use Rattle.can_node_rules.specs.Context.{ContextValue};
+ghost use Rattle.can_node_rules.specs.Pieces.Place.{AtDelimiter};
+ghost use Rattle.can_node_rules.specs.UnfinishedPieces.{IsInDelimiter};
 ghost use Rattle.can_node.specs.Inside.Turns.{IsTurn};
 
 use super::after_bit::AfterBit;
-use super::cause::Cause;
 use super::ending::Ending;
-use super::fault_site::FaultSite;
 use super::overload_condition::OverloadCondition;
 use super::stage::Stage;
-use can_bits::{Level, Segment, Shift};
+use can_bits::Shift;
+use can_levels::{Level, Segment};
+use can_node_rules::{Cause, FaultSite};
 
 /// How many recessive levels of a delimiter come before its last.
 const BEFORE_LAST: u8 = 7;

@@ -1,20 +1,21 @@
 //! What a node drives.
 use super::node::Node;
-use super::role::Role;
 use super::stage::Stage;
-use can_bits::Level;
+use can_levels::Level;
+use can_node_rules::Role;
 
 impl Node {
     ghost use Rattle.std.specs.Prelude.{List};
-    ghost use Rattle.can_bits.specs.declared.level.Level.{Level as Bus};
+    ghost use Rattle.can_levels.specs.declared.level.Level.{Level as Bus};
     ghost use Rattle.can_bits.specs.Shifts.{StandsFor};
-    ghost use Rattle.can_node.specs.Bits.{Bit};
-    ghost use Rattle.can_node.specs.Context.{ContextValue};
-    ghost use Rattle.can_node.specs.Pieces.{Place};
-    ghost use Rattle.can_node.specs.Frames.{Acknowledges};
-    ghost use Rattle.can_node.specs.Driving.{Drives};
-    ghost use Rattle.can_node.specs.Inside.Standing.{context_of, HasBody, IsKept};
-    ghost use Rattle.can_node.specs.Inside.Stages.{At, IsReading};
+    ghost use Rattle.can_node_rules.specs.Bits.{Bit};
+    ghost use Rattle.can_node_rules.specs.Context.{ContextValue};
+    ghost use Rattle.can_node_rules.specs.Pieces.{Place};
+    ghost use Rattle.can_node_rules.specs.Frames.{Acknowledges};
+    ghost use Rattle.can_node_rules.specs.Driving.{Drives};
+    ghost use Rattle.can_node.specs.Standing.{context_of, HasBody};
+    ghost use Rattle.can_node_rules.specs.KeptContexts.{IsKept};
+    ghost use Rattle.can_node.specs.Stages.{At, IsReading};
 
     /// The level that the node drives in the next bit.
     #[inline(always)]

@@ -1,10 +1,8 @@
 //! How a piece of a node's record ended.
-use super::cause::Cause;
-use super::fault_site::FaultSite;
 use super::overload_condition::OverloadCondition;
-use super::request::Request;
-use can_bits::Segment;
 use can_frame::Frame;
+use can_levels::Segment;
+use can_node_rules::{Cause, FaultSite, Request};
 
 /// How a piece ended, with what the end tells.
 #[derive(Debug, Drop)]

@@ -1,16 +1,14 @@
 //! What a bit tells.
 use super::after_bit::AfterBit;
-use super::cause::Cause;
-use super::counters::BUS_OFF;
 use super::ending::Ending;
 use super::node::Node;
-use super::outcome::Outcome;
-use can_bits::Segment;
 use can_frame::Frame;
+use can_levels::Segment;
+use can_node_rules::{BUS_OFF, Cause, Outcome};
 
 impl AfterBit {
     ghost use Rattle.std.specs.Prelude.{◌≡◌};
-    ghost use Rattle.can_node.specs.Events.{fault_in, received_in, sends_in};
+    ghost use Rattle.can_node_rules.specs.Events.{fault_in, received_in, sends_in};
     ghost use Rattle.can_node.specs.Inside.Turns.{step_of};
 
     /// The frame that is valid from this bit on: another node's, or an own one that was to be received too.
@@ -59,9 +57,9 @@ impl AfterBit {
 
 impl Node {
     ghost use Rattle.std.specs.Prelude.{◌≡◌};
-    ghost use Rattle.can_node.specs.Context.{ContextValue, is_held};
-    ghost use Rattle.can_node.specs.Events.{Step, ended_in, sends_in};
-    ghost use Rattle.can_node.specs.Inside.Standing.{context_of};
+    ghost use Rattle.can_node_rules.specs.Context.{ContextValue, is_held};
+    ghost use Rattle.can_node_rules.specs.Events.{Step, ended_in, sends_in};
+    ghost use Rattle.can_node.specs.Standing.{context_of};
 
     /// How a request ended that was held before the bit or not.
     pub(crate) fn ended(&self, held: bool, sent: bool) -> Option<Outcome>

@@ -1,12 +1,8 @@
 //! Fault confinement: the rules of the error counters up to bus-off (Bosch CAN 2.0 part A section 7, ISO 11898-1).
-use super::cause::Cause;
 use super::context::Context;
-use super::counters::{Counters, ERROR_PASSIVE};
 use super::ending::Ending;
-use super::fault_site::FaultSite;
-use super::flag_kind::FlagKind;
-use super::role::Role;
-use can_bits::Level;
+use can_levels::Level;
+use can_node_rules::{Cause, Counters, ERROR_PASSIVE, FaultSite, FlagKind, Role};
 
 /// What a transmitter's error adds to TEC; so do eight dominant levels after a flag, to TEC or REC by role.
 const ERROR_STEP: u8 = 8;
@@ -18,14 +14,16 @@ const REC_ACKNOWLEDGED: u8 = 127;
 /// The counters' steps. TEC never comes far above 256, where the node goes bus-off.
 impl Context {
     ghost use Rattle.std.specs.Prelude.{◌≡◌, ◌<◌, ◌+◌, ◌%◌, ◌==◌, ◌&&◌, List, [], fold, length};
-    ghost use Rattle.can_node.specs.declared.request.Request.{Request};
-    ghost use Rattle.can_node.specs.Bits.{Bit, seen_of};
-    ghost use Rattle.can_node.specs.Context.{is_passive};
-    ghost use Rattle.can_node.specs.Pieces.Piece.{Integration, Transmission};
-    ghost use Rattle.can_node.specs.Counting.{more_rec, more_tec, more_by, integration_bit, next_run, if_ack_step_owed};
-    ghost use Rattle.can_node.specs.Counting.{delimiter_level, are_dominant, after_error_flag, if_acknowledged};
-    ghost use Rattle.can_node.specs.Effects.{own_step, fault_step, transmitter_fault};
-    ghost use Rattle.can_node.specs.Inside.Standing.{context_of, is_nil};
+    ghost use Rattle.can_node_rules.specs.declared.request.Request.{Request};
+    ghost use Rattle.can_node_rules.specs.Bits.{Bit, seen_of};
+    ghost use Rattle.can_node_rules.specs.Context.{is_passive};
+    ghost use Rattle.can_node_rules.specs.Pieces.Piece.{Integration, Transmission};
+    ghost use Rattle.can_node_rules.specs.Counting.{more_rec, more_tec, more_by, integration_bit, next_run};
+    ghost use Rattle.can_node_rules.specs.Counting.{if_ack_step_owed};
+    ghost use Rattle.can_node_rules.specs.Counting.{delimiter_level, are_dominant, after_error_flag, if_acknowledged};
+    ghost use Rattle.can_node_rules.specs.Effects.{own_step, fault_step, transmitter_fault};
+    ghost use Rattle.can_node.specs.Standing.{context_of};
+    ghost use Rattle.can_node_rules.specs.KeptContexts.{is_nil};
     ghost use Rattle.can_node.specs.Inside.Turns.{piece_of};
 
     // ---- steps

@@ -1,21 +1,20 @@
 //! Error flags and overload flags (Bosch CAN 2.0 part A sections 3.1.3 and 3.1.4).
 ghost use Rattle.std.specs.Prelude.{◌≡◌, List};
-ghost use Rattle.can_bits.specs.declared.level.Level.TheVariants.{Dominant, Recessive};
-ghost use Rattle.can_node.specs.Bits.{Bit, recessive_bit, dominant_bit};
-ghost use Rattle.can_node.specs.Context.{ContextValue, flag_level};
-ghost use Rattle.can_node.specs.Pieces.Place.{AtFlag};
-ghost use Rattle.can_node.specs.Inside.Stages.{IsInDominantFlag, IsInPassiveFlag};
-ghost use Rattle.can_node.specs.Table.{flag_segment};
+ghost use Rattle.can_levels.specs.declared.level.Level.TheVariants.{Dominant, Recessive};
+ghost use Rattle.can_node_rules.specs.Bits.{Bit, recessive_bit, dominant_bit};
+ghost use Rattle.can_node_rules.specs.Context.{ContextValue, flag_level};
+ghost use Rattle.can_node_rules.specs.Pieces.Place.{AtFlag};
+ghost use Rattle.can_node_rules.specs.UnfinishedPieces.{IsInDominantFlag, IsInPassiveFlag};
+ghost use Rattle.can_node_rules.specs.Table.{flag_segment};
 ghost use Rattle.can_node.specs.Inside.Turns.{IsTurn, one_more};
 
 use super::after_bit::AfterBit;
-use super::cause::Cause;
 use super::ending::Ending;
-use super::fault_site::FaultSite;
-use super::flag_kind::FlagKind;
 use super::node::Node;
 use super::stage::Stage;
-use can_bits::{Level, Segment, Shift};
+use can_bits::Shift;
+use can_levels::{Level, Segment};
+use can_node_rules::{Cause, FaultSite, FlagKind};
 
 /// How many bits of an active error flag or overload flag come before its last; of a passive error flag, how many equal
 /// levels.
@@ -78,10 +77,11 @@ pub(crate) fn after_passive_flag_bit(bits: u8, last: Level, seen: Level) -> Afte
 
 impl Node {
     ghost use Rattle.std.specs.Prelude.{◌≡◌, List};
-    ghost use Rattle.can_bits.specs.declared.level.Level.{Level as Bus};
+    ghost use Rattle.can_levels.specs.declared.level.Level.{Level as Bus};
     ghost use Rattle.can_bits.specs.declared.shift.Shift.{Shift as Reader};
-    ghost use Rattle.can_node.specs.Inside.Standing.{context_of, IsKept};
-    ghost use Rattle.can_node.specs.Inside.Stages.{IsInFlag};
+    ghost use Rattle.can_node.specs.Standing.{context_of};
+    ghost use Rattle.can_node_rules.specs.KeptContexts.{IsKept};
+    ghost use Rattle.can_node_rules.specs.UnfinishedPieces.{IsInFlag};
 
     /// A bit of a flag, by the level that the node drives in it.
     pub(crate) fn after_flag_bit(&self, bits: u8, last: Level, seen: Level) -> AfterBit

@@ -1,16 +1,17 @@
 //! Interframe space: intermission, and suspend transmission where it is owed (Bosch CAN 2.0 part A section 3.1.5).
 ghost use Rattle.std.specs.Prelude.{◌≡◌, List};
-ghost use Rattle.can_node.specs.Bits.{Bit, recessive_bit};
-ghost use Rattle.can_node.specs.Context.{ContextValue, owes_suspension};
-ghost use Rattle.can_node.specs.Pieces.Place.{AtInterframeSpace};
-ghost use Rattle.can_node.specs.Inside.Stages.{IsInInterframeSpace};
+ghost use Rattle.can_node_rules.specs.Bits.{Bit, recessive_bit};
+ghost use Rattle.can_node_rules.specs.Context.{ContextValue, owes_suspension};
+ghost use Rattle.can_node_rules.specs.Pieces.Place.{AtInterframeSpace};
+ghost use Rattle.can_node_rules.specs.UnfinishedPieces.{IsInInterframeSpace};
 ghost use Rattle.can_node.specs.Inside.Turns.{IsTurn};
 
 use super::after_bit::AfterBit;
 use super::ending::Ending;
 use super::overload_condition::OverloadCondition;
 use super::stage::Stage;
-use can_bits::{Level, Shift};
+use can_bits::Shift;
+use can_levels::Level;
 
 /// The last bit of intermission has this number, from 0; a dominant level there is SOF.
 const LAST_OF_INTERMISSION: u8 = 2;

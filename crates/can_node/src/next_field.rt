@@ -1,10 +1,9 @@
 //! What a node shows of its next bit beside the phase: role, request, flag, and the segment of a frame.
 
-use super::flag_kind::FlagKind;
 use super::node::Node;
-use super::request::Request;
 use super::stage::Stage;
-use can_bits::Segment;
+use can_levels::Segment;
+use can_node_rules::{FlagKind, Request};
 
 impl Node {
     ghost use Rattle.can_node.specs.NextField.{ShowsRole, ShowsRequest, ShowsFlag, ShowsSegment};

@@ -1,13 +1,12 @@
 //! What follows a bit: the piece goes on, or ends and leads to the next place, or bus-off comes.
 use super::after_bit::AfterBit;
 use super::context::Context;
-use super::counters::BUS_OFF;
 use super::ending::Ending;
-use super::flag_kind::FlagKind;
 use super::node::Node;
-use super::role::Role;
 use super::stage::Stage;
-use can_bits::{Level, Shift};
+use can_bits::Shift;
+use can_levels::Level;
+use can_node_rules::{BUS_OFF, FlagKind, Role};
 
 /// At the beginning of a flag.
 const FLAG: Stage = Stage::InFlag {
@@ -21,15 +20,15 @@ const INTERFRAME_SPACE: Stage = Stage::InInterframeSpace { bits: 0 };
 impl Node {
     ghost use Rattle.std.specs.Prelude.{◌≡◌, ◌<◌, ◌≤◌, ◌++◌, ◌∷◌, [], List};
     ghost use Rattle.can_node.specs.declared.stage.Stage.TheVariants.{InReset as StageInReset};
-    ghost use Rattle.can_node.specs.Bits.{Bit};
-    ghost use Rattle.can_node.specs.Context.{ContextValue};
-    ghost use Rattle.can_node.specs.Pieces.{Place};
-    ghost use Rattle.can_node.specs.Pieces.Place.{AfterSof};
-    ghost use Rattle.can_node.specs.Pieces.Piece.{InterframeSpaceWithSof};
-    ghost use Rattle.can_node.specs.Counting.{at_bit};
-    ghost use Rattle.can_node.specs.Effects.{closed};
-    ghost use Rattle.can_node.specs.Inside.Standing.{context_of, HasBody};
-    ghost use Rattle.can_node.specs.Inside.Stages.{At};
+    ghost use Rattle.can_node_rules.specs.Bits.{Bit};
+    ghost use Rattle.can_node_rules.specs.Context.{ContextValue};
+    ghost use Rattle.can_node_rules.specs.Pieces.{Place};
+    ghost use Rattle.can_node_rules.specs.Pieces.Place.{AfterSof};
+    ghost use Rattle.can_node_rules.specs.Pieces.Piece.{InterframeSpaceWithSof};
+    ghost use Rattle.can_node_rules.specs.Counting.{at_bit};
+    ghost use Rattle.can_node_rules.specs.Effects.{closed};
+    ghost use Rattle.can_node.specs.Standing.{context_of, HasBody};
+    ghost use Rattle.can_node.specs.Stages.{At};
     ghost use Rattle.can_node.specs.Inside.Turns.{next_of, piece_of, IsTurn, resulted, AtAfter, off_if};
 
     /// Stands in the piece under way, or at the place after it.
@@ -111,9 +110,9 @@ impl Node {
 
 impl Context {
     ghost use Rattle.std.specs.Prelude.{◌≡◌, ◌<◌};
-    ghost use Rattle.can_node.specs.Context.{ContextValue};
-    ghost use Rattle.can_node.specs.Effects.{closed, error_flag, entering};
-    ghost use Rattle.can_node.specs.Inside.Standing.{context_of};
+    ghost use Rattle.can_node_rules.specs.Context.{ContextValue};
+    ghost use Rattle.can_node_rules.specs.Effects.{closed, error_flag, entering};
+    ghost use Rattle.can_node.specs.Standing.{context_of};
     ghost use Rattle.can_node.specs.Inside.Turns.{piece_of, next_of};
 
     /// The end of a piece: its own step, and what the next place sets.

@@ -1,16 +1,11 @@
 //! [`Node`]: a CAN node, bit by bit.
 
-use super::abort_outcome::AbortOutcome;
 use super::after_bit::AfterBit;
-use super::bit_events::BitEvents;
-use super::config::Config;
 use super::context::Context;
-use super::counters::Counters;
-use super::outcome::Outcome;
-use super::phase::Phase;
-use super::request::Request;
 use super::stage::Stage;
-use can_bits::{Level, SentBody, Shift};
+use can_bits::{SentBody, Shift};
+use can_levels::Level;
+use can_node_rules::{AbortOutcome, BitEvents, Config, Counters, Outcome, Phase, Request};
 
 /// A CAN node, bit by bit: what it drives, and what it makes of the levels that it sees (Bosch CAN 2.0 part A).
 ///
@@ -29,14 +24,14 @@ pub struct Node {
 
 impl Node {
     ghost use Rattle.std.specs.Prelude.{◌≡◌, ◌<◌, ◌↔◌, [], List, IsTrue};
-    ghost use Rattle.can_node.specs.Record.{RecordEntry};
-    ghost use Rattle.can_node.specs.Bits.{Bit};
-    ghost use Rattle.can_node.specs.Context.{ContextValue};
-    ghost use Rattle.can_node.specs.Pieces.{Place};
-    ghost use Rattle.can_node.specs.Effects.{is_in_progress};
-    ghost use Rattle.can_node.specs.Inside.Standing.{context_of};
-    ghost use Rattle.can_node.specs.Inside.Stages.{At};
-    ghost use Rattle.can_node.specs.Cut.{FinishedPiece};
+    ghost use Rattle.can_node_rules.specs.Record.{RecordEntry};
+    ghost use Rattle.can_node_rules.specs.Bits.{Bit};
+    ghost use Rattle.can_node_rules.specs.Context.{ContextValue};
+    ghost use Rattle.can_node_rules.specs.Pieces.{Place};
+    ghost use Rattle.can_node_rules.specs.Effects.{is_in_progress};
+    ghost use Rattle.can_node.specs.Standing.{context_of};
+    ghost use Rattle.can_node.specs.Stages.{At};
+    ghost use Rattle.can_node_rules.specs.Cut.{FinishedPiece};
     ghost use Rattle.can_node.specs.Stands.{StandsAt, InReset, Enters, DrivesNext, Samples, StaysReset};
     ghost use Rattle.can_node.specs.Stands.{ShowsPhase, ShowsCounters, ShowsRest, Requests, Aborts};
 

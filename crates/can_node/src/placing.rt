@@ -2,9 +2,9 @@
 
 use super::context::Context;
 use super::node::Node;
-use super::node_place::NodePlace;
 use super::stage::Stage;
-use can_bits::{FramePlace, Segment};
+use can_levels::{FramePlace, Segment};
+use can_node_rules::NodePlace;
 
 /// How many bits intermission has (Bosch CAN 2.0 part A section 3.1.5).
 const INTERMISSION: u8 = 3;
@@ -32,10 +32,10 @@ impl Node {
 
 impl Context {
     ghost use Rattle.std.specs.Prelude.{◌≡◌, is_some};
-    ghost use Rattle.can_node.specs.Pieces.{sent_at};
-    ghost use Rattle.can_node.specs.Pieces.Place.{AtIdle};
+    ghost use Rattle.can_node_rules.specs.Pieces.{sent_at};
+    ghost use Rattle.can_node_rules.specs.Pieces.Place.{AtIdle};
     ghost use Rattle.can_node.specs.NextPlace.{start_if, in_frame, sends_extended};
-    ghost use Rattle.can_node.specs.Inside.Standing.{context_of};
+    ghost use Rattle.can_node.specs.Standing.{context_of};
 
     /// The place where the bus is idle.
     fn start_place(&self) -> Option<NodePlace>
@@ -53,7 +53,7 @@ impl Context {
         ensures { result ≡ in_frame (sends_extended (context_of self.now)) place }
     {
         if is_first_remote(place) && self.sends_extended() {
-            NodePlace::Substitute
+            NodePlace::Srr
         } else {
             NodePlace::InFrame(place)
         }

@@ -1,25 +1,26 @@
 //! The quick way of a bit: in most bits nothing happens that a node shows.
 ghost use Rattle.std.specs.Prelude.{◌≡◌, ◌==◌, ◌&&◌, ◌||◌, not, nat_lt};
-ghost use Rattle.can_bits.specs.Fields.{is_recessive};
+ghost use Rattle.can_levels.specs.Fields.{is_recessive};
 
 use super::bus_integration::after_integration_bit;
 use super::delimiter::{after_delimiter_bit, is_eighth, is_first};
 use super::interframe_space::after_interframe_bit;
 use super::node::Node;
-use super::role::Role;
 use super::stage::Stage;
-use can_bits::Level;
+use can_levels::Level;
+use can_node_rules::Role;
 
 impl Node {
     ghost use Rattle.std.specs.Prelude.{◌≡◌, List, Some, true, false};
-    ghost use Rattle.can_bits.specs.declared.level.Level.{Level as Bus};
-    ghost use Rattle.can_bits.specs.declared.level.Level.TheVariants.{Recessive};
+    ghost use Rattle.can_levels.specs.declared.level.Level.{Level as Bus};
+    ghost use Rattle.can_levels.specs.declared.level.Level.TheVariants.{Recessive};
     ghost use Rattle.can_bits.specs.Shifts.{StandsFor};
-    ghost use Rattle.can_bits.specs.Streaming.{IsRightInside};
-    ghost use Rattle.can_node.specs.declared.role.Role.TheVariants.{Transmitter, Receiver};
+    ghost use Rattle.can_levels.specs.Streaming.{IsRightInside};
+    ghost use Rattle.can_node_rules.specs.declared.role.Role.TheVariants.{Transmitter, Receiver};
     ghost use Rattle.can_node.specs.declared.stage.Stage.TheVariants.{InFrame as StageInFrame, BusIdle as StageBusIdle};
     ghost use Rattle.can_node.specs.Inside.Quiet.{TurnsQuietly, is_outside};
-    ghost use Rattle.can_node.specs.Stands.{Samples, ShowsSame, nothing, is_receiving};
+    ghost use Rattle.can_node.specs.Stands.{Samples, ShowsSame, is_receiving};
+    ghost use Rattle.can_node_rules.specs.Outcomes.{nothing};
     ghost use Rattle.can_node.specs.Together.{is_sending, kept_level, reader_of};
 
     /// Sees the level of the bus where the bit changes nothing that the node shows: no event, and the same error

@@ -1,18 +1,18 @@
 //! A bit of a frame for its receiver (Bosch CAN 2.0 part A sections 3.1.1 and 6).
 ghost use Rattle.std.specs.Prelude.{◌≡◌, ◌&&◌, not, List, ◌++◌, ◌∷◌, []};
-ghost use Rattle.can_bits.specs.Fields.{is_recessive};
-ghost use Rattle.can_bits.specs.declared.level.Level.{Level as Bus};
+ghost use Rattle.can_levels.specs.Fields.{is_recessive};
+ghost use Rattle.can_levels.specs.declared.level.Level.{Level as Bus};
 ghost use Rattle.can_bits.specs.Shifts.{StandsFor};
-ghost use Rattle.can_node.specs.Inside.Causes.{cause_by};
-ghost use Rattle.can_node.specs.Bits.{Bit};
+ghost use Rattle.can_node_rules.specs.Causes.{cause_by};
+ghost use Rattle.can_node_rules.specs.Bits.{Bit};
 ghost use Rattle.can_node.specs.Inside.Turns.{ReceivesBit};
 
 use super::after_bit::AfterBit;
-use super::cause::Cause;
 use super::ending::Ending;
-use super::fault_site::FaultSite;
 use super::stage::Stage;
-use can_bits::{KeptFrame, Level, LineFault, Segment, Shift};
+use can_bits::{KeptFrame, Shift};
+use can_levels::{Level, LineFault, Segment};
+use can_node_rules::{Cause, FaultSite};
 
 /// The cause of a fault of a line.
 fn cause_of(fault: &LineFault) -> Cause

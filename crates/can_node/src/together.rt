@@ -6,17 +6,18 @@ ghost use Rattle.can_bits.specs.Sending.{TakesInside};
 ghost use Rattle.can_node.specs.Together.{NotBoth};
 
 use super::node::Node;
-use super::role::Role;
 use super::stage::Stage;
-use can_bits::{Level, Shift};
+use can_bits::Shift;
+use can_levels::Level;
+use can_node_rules::Role;
 
 impl Node {
     ghost use Rattle.std.specs.Prelude.{◌≡◌, ◌<◌, ◌≤◌, ◌+◌, ◌⊎◌, ℕ, true, false, List};
     ghost use Rattle.std.specs.Prelude.{length, take, drop};
-    ghost use Rattle.can_bits.specs.declared.level.Level.{Level as Bus};
+    ghost use Rattle.can_levels.specs.declared.level.Level.{Level as Bus};
     ghost use Rattle.can_bits.specs.Sending.{BothHave, place_of};
     ghost use Rattle.can_bits.specs.Shifts.{StandsFor};
-    ghost use Rattle.can_bits.specs.Streaming.{IsRightInside};
+    ghost use Rattle.can_levels.specs.Streaming.{IsRightInside};
     ghost use Rattle.can_node.specs.Together.{is_sending, kept_level, reader_of, reading_as, HasReadAs};
     ghost use Rattle.can_node.specs.Together.{GoesWith, IsApart, SendsAlike, SendsBits, body_of, following, sending_as};
     ghost use Rattle.can_node.specs.Together.{NotBoth, TakesBits};

@@ -1,22 +1,20 @@
 //! A bit of a frame for its transmitter (Bosch CAN 2.0 part A sections 3.1.1 and 6).
 ghost use Rattle.std.specs.Prelude.{◌≡◌, ◌↔◌, ◌++◌, ◌∷◌, [], List, Bool, Some, IsTrue};
-ghost use Rattle.can_bits.specs.declared.level.Level.{Level as Bus};
-ghost use Rattle.can_bits.specs.Acknowledging.{IsAckDue};
-ghost use Rattle.can_bits.specs.Places.{is_early_stuff};
+ghost use Rattle.can_levels.specs.declared.level.Level.{Level as Bus};
+ghost use Rattle.can_levels.specs.Acknowledging.{IsAckDue};
+ghost use Rattle.can_levels.specs.Places.{is_early_stuff};
 ghost use Rattle.can_bits.specs.Shifts.{StandsFor};
-ghost use Rattle.can_bits.specs.Streaming.{IsReadable};
-ghost use Rattle.can_node.specs.Bits.{Bit};
-ghost use Rattle.can_node.specs.Inside.TransmitterCauses.{cause_of_bit, kind_of};
+ghost use Rattle.can_levels.specs.Streaming.{IsReadable};
+ghost use Rattle.can_node_rules.specs.Bits.{Bit};
+ghost use Rattle.can_node_rules.specs.TransmitterCauses.{cause_of_bit, kind_of};
 ghost use Rattle.can_node.specs.Inside.Turns.{TransmitsBit};
 
 use super::after_bit::AfterBit;
-use super::cause::Cause;
 use super::ending::Ending;
-use super::fault_site::FaultSite;
-use super::own_bit::OwnBit;
-use super::request::Request;
 use super::stage::Stage;
-use can_bits::{Level, Shift};
+use can_bits::Shift;
+use can_levels::Level;
+use can_node_rules::{Cause, FaultSite, OwnBit, Request};
 
 /// What the next bit is to the transmitter of a frame of this format, which loses arbitration in it or not.
 fn own_bit(shift: &Shift, ext: bool, lost: bool) -> OwnBit

@@ -5,7 +5,7 @@ use Rattle.can_frame.specs.Frame.{FrameValue, IsFrame, id_limit}
 use Rattle.can_notation.specs.Digits.{capitals}
 use Rattle.can_notation.specs.Text.{identifier_text, rest_text, Says}
 use Rattle.can_notation.specs.Faults.{HasHash, HasIdentifier, HasRest, before_hash, behind_hash}
-use Rattle.can_notation.specs.Inside.Rest.{IsRest}
+use Rattle.can_notation.specs.Rest.{IsRest}
 use Rattle.can_notation.proofs.HashLemmas.{joined}
 
 -- the frame of five values

@@ -9,7 +9,7 @@ use Rattle.std.proofs.lemmas.List.{take_at, drop_at, take_rest, take-map, drop-m
 use Rattle.can_frame.specs.Frame.{data_count}
 use Rattle.can_notation.specs.Digits.{digit_of, capital, capitals}
 use Rattle.can_notation.specs.Text.{data_text, count_text, long_dlc_text, dlc_mark, rest_text}
-use Rattle.can_notation.specs.Inside.Rest.{IsRest, BeginsRemote}
+use Rattle.can_notation.specs.Rest.{IsRest, BeginsRemote}
 use Rattle.can_notation.proofs.DigitLemmas.{digit_of-small, digit_of-injective, capital-digit_of}
 use Rattle.can_notation.proofs.DataLemmas.{AreBytes, length-data_text, length_from_text, data_text-injective}
 use Rattle.can_notation.proofs.DataLemmas.{capitals-data_text}

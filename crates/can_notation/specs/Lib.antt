@@ -1,4 +1,4 @@
 pub mod Digits
 pub mod Text
 pub mod Faults
-pub mod Inside
+pub mod Rest

@@ -3,7 +3,7 @@
 ghost use Rattle.std.specs.Prelude.{◌≡◌, ◌≢◌, ◌≤◌, ◌<◌, ◌++◌, ℕ, List, IfSome, IfNone, All, length, min, false};
 ghost use Rattle.can_notation.specs.Digits.{capitals};
 ghost use Rattle.can_notation.specs.Text.{data_text, rest_text};
-ghost use Rattle.can_notation.specs.Inside.Rest.{IsRest};
+ghost use Rattle.can_notation.specs.Rest.{IsRest};
 
 use super::digits::number_of;
 use super::remote::long_dlc;

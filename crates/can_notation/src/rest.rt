@@ -3,7 +3,7 @@
 ghost use Rattle.std.specs.Prelude.{◌≡◌, ◌≢◌, ◌↔◌, ℕ, List, Bool, IsTrue, IfSome, IfNone};
 ghost use Rattle.can_notation.specs.Digits.{capitals};
 ghost use Rattle.can_notation.specs.Text.{rest_text};
-ghost use Rattle.can_notation.specs.Inside.Rest.{IsRest, BeginsRemote};
+ghost use Rattle.can_notation.specs.Rest.{IsRest, BeginsRemote};
 
 use super::body::data;
 use super::remote::remote_dlc;

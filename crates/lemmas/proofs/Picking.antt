@@ -1,5 +1,5 @@
 -- Lists beside lists with an element more, and what holds of each element and of those before it.
-use Rattle.std.proofs.Common.{◌≡◌, List, [], ◌∷◌, ◌++◌, map, refl, sym, ap₂, subst, append_assoc, append-nil}
+use Rattle.std.proofs.Common.{List, [], ◌∷◌, ◌++◌, sym, subst, append_assoc, append-nil}
 use Rattle.lemmas.specs.Picking.{Picks, EachAfter}
 use Rattle.lemmas.specs.Picking.Picks.{nothing, picked, left}
 
@@ -16,17 +16,6 @@ pub leaves_push : {A B : Type 0} {P : A → Type 0} {R : A → B → Type 0} {xs
 leaves_push x h nothing = left x h nothing
 leaves_push x h (picked v w g q more) = picked v w g q (leaves_push x h more)
 leaves_push x h (left v g more) = left v g (leaves_push x h more)
-
--- what is picked is one list, as far as the partners are alike
-pub picks_once : {A B C : Type 0} {P : A → Type 0} {R : A → B → Type 0} (g : B → C) →
-    ((x : A) (y z : B) → R x y → R x z → g y ≡ g z) → {xs : List A} {ys zs : List B} →
-    Picks P R xs ys → Picks P R xs zs → map g ys ≡ map g zs
-picks_once g one nothing nothing = refl
-picks_once g one (picked x y h r more) (picked _ z k q others) =
-    ap₂ (λ v l. v ∷ l) (one x y z r q) (picks_once g one more others)
-picks_once g one (picked x y h r more) (left _ k others) = absurd (k h)
-picks_once g one (left x h more) (picked _ z k q others) = absurd (h k)
-picks_once g one (left x h more) (left _ k others) = picks_once g one more others
 
 -- what holds of each element, and of one more at the end
 pub each_push : {X : Type 0} (P : List X → X → Type 0) (before xs : List X) (x : X) → EachAfter P before xs →

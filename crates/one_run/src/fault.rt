@@ -2,7 +2,7 @@
 
 use can_frame::OutOfMemory;
 use sja_log::RunFault;
-use sja_places::ReadFault;
+use sja_placed_strikes::ReadFault;
 use std::io;
 use thiserror::Error;
 

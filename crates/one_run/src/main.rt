@@ -6,12 +6,12 @@
 mod fault;
 
 use fault::Fault;
-use sja_places::plan_of;
-use sja_report::report;
+use sja_placed_strikes::plan_of;
 use sja_serial::run_serial;
 use std::alloc::Global;
 use std::io::Read;
 use std::process::ExitCode;
+use text_report::report;
 
 /// Answers the exit status: 0 where the report was printed, else 1. Each error has a line on standard error.
 fn main(rt: HostRuntime) -> ExitCode {

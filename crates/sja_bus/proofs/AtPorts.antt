@@ -3,5 +3,5 @@ pub mod Applying
 pub mod Aborting
 pub mod Turning
 pub mod TurnsTold
-pub mod SeatBits
+pub mod BusNodeBits
 pub mod OtherWords

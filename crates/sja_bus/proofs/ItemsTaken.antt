@@ -4,5 +4,5 @@ pub mod Takings
 pub mod OutOfRoom
 pub mod Refusing
 pub mod Breaking
-pub mod BreakingSeats
+pub mod BreakingBusNodes
 pub mod TakenBefore

@@ -1,5 +1,5 @@
 -- The links of a node and of all nodes.
 pub mod AtLinks
-pub mod Seating
+pub mod BusNodeParts
 pub mod Linking
 pub mod WrittenBack

@@ -7,5 +7,5 @@ pub mod Places
 pub mod LedBits
 pub mod Fewer
 pub mod LedRows
-pub mod LedSeats
+pub mod LedBusNodes
 pub mod StrayRows

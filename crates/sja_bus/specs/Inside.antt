@@ -1,12 +1,12 @@
 -- How the code keeps a bus.
 pub mod StrikesByBit
 pub mod Following
-pub mod Seats
+pub mod BusNodes
 pub mod AtLinks
 pub mod Taking
 pub mod Refusing
 pub mod Turning
-pub mod SeatBits
+pub mod BusNodeBits
 pub mod Rows
 pub mod RowTakes
 pub mod Underway

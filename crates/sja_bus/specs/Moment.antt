@@ -4,9 +4,9 @@ use Rattle.sja_link.specs.declared.bus_end.BusEnd.{Ghosts as Ends}
 use Rattle.lemmas.specs.Related.{EachRelated}
 use Rattle.sja_bus.specs.declared.board.Board.{Ghosts as Ports}
 use Rattle.sja_bus.specs.Boards.{KeepsOthers}
-use Rattle.sja_link.specs.declared.entry.Entry.{Entry}
-use Rattle.sja_wire.specs.Buses.{BusValue, KeepsAll, AreOnLinks, AllTold, IsBit}
-use Rattle.sja_wire.specs.Lawful.{IsBusRun}
+use Rattle.sja_journal.specs.declared.entry.Entry.{Entry}
+use Rattle.sja_bus_rules.specs.Buses.{BusValue, KeepsAll, AreOnLinks, AllTold, IsBit}
+use Rattle.sja_bus_rules.specs.Lawful.{IsBusRun}
 
 -- a bus with its links and its ports, between two bits
 pub record Moment (E B : Type 0) : Type 0 where

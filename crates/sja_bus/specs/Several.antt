@@ -1,17 +1,17 @@
 -- Bits of a bus, one after another: each goes on with the bus, the links and the ports that the one before it left
 -- (this project's own rule).
 use Rattle.std.specs.Prelude.{◌≡◌, ◌<◌, ℕ, suc, true, false, Bool, List, length}
-use Rattle.sja_link.specs.declared.entry.Entry.{Entry}
-use Rattle.sja_link.specs.Records.{record_of}
+use Rattle.sja_journal.specs.declared.entry.Entry.{Entry}
+use Rattle.sja_journal.specs.Records.{record_of}
 use Rattle.sja_link.specs.declared.bus_end.BusEnd.{Ghosts as Ends}
 use Rattle.sja_regs.specs.declared.orders.Orders.{Orders}
 use Rattle.sja_bus.specs.declared.board.Board.{Ghosts as Ports}
-use Rattle.sja_wire.specs.declared.bus_fault.BusFault.{BusFault}
+use Rattle.sja_journal.specs.declared.bus_fault.BusFault.{BusFault}
 use Rattle.sja_bus.specs.Moment.{Moment, OneBit}
-use Rattle.sja_wire.specs.Reasons.{StopsBit}
-use Rattle.sja_bus.specs.Resting.{RestsAs}
+use Rattle.sja_bus_rules.specs.Reasons.{StopsBit}
+use Rattle.sja_bus.specs.BusRest.{RestsAs}
 use Rattle.sja_bus.specs.TakingAll.{TakesAll}
-use Rattle.sja_wire.specs.Wire.{journal_at}
+use Rattle.sja_bus_rules.specs.Wire.{journal_at}
 
 -- every node is at rest at the end of its journal
 abbrev pub AllRest : List (List Entry) → Type 0

@@ -1,22 +1,22 @@
 -- Bits that are run at once, in each of which every node is at rest (this project's own rule).
 use Rattle.std.specs.Prelude.{◌≡◌, ◌+◌, ◌<◌, ◌≤◌, ℕ, suc, Bool, true, false, List, ◌++◌, length, map, replicate}
-use Rattle.can_bits.specs.declared.level.Level.TheVariants.{Recessive}
-use Rattle.sja_link.specs.declared.entry.Entry.{Entry}
-use Rattle.sja_link.specs.declared.entry.Entry.TheVariants.{Bit}
+use Rattle.can_levels.specs.declared.level.Level.TheVariants.{Recessive}
+use Rattle.sja_journal.specs.declared.entry.Entry.{Entry}
+use Rattle.sja_journal.specs.declared.entry.Entry.TheVariants.{Bit}
 use Rattle.sja_link.specs.declared.bus_end.BusEnd.{Ghosts as Ends}
-use Rattle.sja_link.specs.Records.{record_of}
-use Rattle.sja_script.specs.declared.strike.Strike.{Strike}
-use Rattle.sja_script.specs.Striking.{Strikes}
+use Rattle.sja_journal.specs.Records.{record_of}
+use Rattle.sja_steps.specs.declared.strike.Strike.{Strike}
+use Rattle.sja_steps.specs.Striking.{Strikes}
 use Rattle.sja_regs.specs.declared.orders.Orders.{Orders}
 use Rattle.sja_regs.specs.declared.bus_turn.BusTurn.{BusTurn}
-use Rattle.sja_wire.specs.declared.bus_fault.BusFault.{BusFault}
-use Rattle.sja_wire.specs.declared.bus_fault.BusFault.TheVariants.{JournalFull}
-use Rattle.sja_wire.specs.Lawful.{IsBusRun}
-use Rattle.sja_wire.specs.Wire.{journal_at}
-use Rattle.sja_link.specs.BitEntries.{MayHaveItems}
-use Rattle.sja_wire.specs.Buses.{BusValue, EachJournal, AreOnLinks, KeepsAll, untold_at, IsBit}
-use Rattle.sja_wire.specs.Reasons.{room_for}
-use Rattle.sja_bus.specs.Resting.{RestsAs}
+use Rattle.sja_journal.specs.declared.bus_fault.BusFault.{BusFault}
+use Rattle.sja_journal.specs.declared.bus_fault.BusFault.TheVariants.{JournalFull}
+use Rattle.sja_bus_rules.specs.Lawful.{IsBusRun}
+use Rattle.sja_bus_rules.specs.Wire.{journal_at}
+use Rattle.sja_journal.specs.BitEntries.{MayHaveItems}
+use Rattle.sja_bus_rules.specs.Buses.{BusValue, EachJournal, AreOnLinks, KeepsAll, untold_at, IsBit}
+use Rattle.sja_bus_rules.specs.Reasons.{room_for}
+use Rattle.sja_bus.specs.BusRest.{RestsAs}
 
 -- the entries of so many bits that were driven and seen recessive
 abbrev pub recessive_bits : ℕ → List Entry

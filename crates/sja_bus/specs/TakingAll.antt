@@ -1,15 +1,15 @@
 -- That all was taken which the links showed right before a bit (this project's own rule).
 use Rattle.std.specs.Prelude.{◌<◌, ℕ, suc, List, length, slice_index_or}
 use Rattle.sja_link.specs.declared.bus_end.BusEnd.{Ghosts as Ends}
-use Rattle.sja_link.specs.declared.entry.Entry.{Entry}
-use Rattle.sja_link.specs.Lists.{Lists}
-use Rattle.sja_link.specs.Accounts.{Account, account}
+use Rattle.sja_journal.specs.declared.entry.Entry.{Entry}
+use Rattle.sja_journal.specs.Lists.{Lists}
+use Rattle.sja_journal.specs.Accounts.{Account, account}
 use Rattle.lemmas.specs.Related.{EachRelated}
-use Rattle.sja_link.specs.Parts.{part}
-use Rattle.sja_link.specs.Carried.{taken_of}
-use Rattle.sja_wire.specs.Wire.{journal_at}
-use Rattle.sja_link.specs.Links.{Kept}
-use Rattle.sja_wire.specs.Buses.{AllDry}
+use Rattle.sja_journal.specs.Parts.{part}
+use Rattle.sja_journal.specs.Carried.{taken_of}
+use Rattle.sja_bus_rules.specs.Wire.{journal_at}
+use Rattle.sja_journal.specs.Links.{Kept}
+use Rattle.sja_bus_rules.specs.Buses.{AllDry}
 
 -- the lists of the link of an activation where nothing was put on it since the first journal, and what was taken from
 -- it is what the second one has

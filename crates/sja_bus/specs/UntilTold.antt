@@ -1,21 +1,21 @@
 -- Bits of a bus up to the first in which a port is told its turn (this project's own rule).
 use Rattle.std.specs.Prelude.{◌≡◌, ◌+◌, ◌<◌, ◌≤◌, ℕ, Bool, true, false, List, [], ◌∷◌, ◌++◌, length}
-use Rattle.can_bits.specs.declared.level.Level.{Level}
-use Rattle.sja_link.specs.declared.entry.Entry.{Entry}
-use Rattle.sja_link.specs.declared.entry.Entry.TheVariants.{Bit}
+use Rattle.can_levels.specs.declared.level.Level.{Level}
+use Rattle.sja_journal.specs.declared.entry.Entry.{Entry}
+use Rattle.sja_journal.specs.declared.entry.Entry.TheVariants.{Bit}
 use Rattle.sja_link.specs.declared.bus_end.BusEnd.{Ghosts as Ends}
 use Rattle.sja_regs.specs.declared.bus_turn.BusTurn.{BusTurn}
 use Rattle.sja_regs.specs.declared.orders.Orders.{Orders}
-use Rattle.sja_script.specs.Striking.{Strikes}
+use Rattle.sja_steps.specs.Striking.{Strikes}
 use Rattle.sja_bus.specs.declared.board.Board.{Ghosts as Ports}
-use Rattle.sja_wire.specs.Buses.{BusValue, EachJournal, untold_at}
+use Rattle.sja_bus_rules.specs.Buses.{BusValue, EachJournal, untold_at}
 use Rattle.sja_bus.specs.Moment.{Moment, OneBit}
-use Rattle.sja_wire.specs.Reasons.{room_for}
+use Rattle.sja_bus_rules.specs.Reasons.{room_for}
 use Rattle.sja_bus.specs.Several.{AllRest, AreBits, BreaksOff, WorksIf}
-use Rattle.sja_wire.specs.declared.bus_fault.BusFault.{BusFault}
-use Rattle.sja_link.specs.BitEntries.{HasBit}
-use Rattle.sja_wire.specs.Telling.{IsTurn, SaysAlone}
-use Rattle.sja_wire.specs.Wire.{journal_at}
+use Rattle.sja_journal.specs.declared.bus_fault.BusFault.{BusFault}
+use Rattle.sja_journal.specs.BitEntries.{HasBit}
+use Rattle.sja_bus_rules.specs.Telling.{IsTurn, SaysAlone}
+use Rattle.sja_bus_rules.specs.Wire.{journal_at}
 
 -- after this journal a bit with these levels brings nothing: no message is judged, the node doesn't go bus-off, and the
 -- turn of the bit says what stands there before it, and nothing else

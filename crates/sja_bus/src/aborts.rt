@@ -1,20 +1,19 @@
 //! Aborts: what marks or drops the request of a controller before it drives a bit.
 
 use super::activity::Activity;
-use super::port_news::PortNews;
-use super::seat::Seat;
-use can_node::AbortOutcome;
-use sja_link::Entry;
-use sja_wire::BusFault;
+use super::bus_node::BusNode;
+use super::pending_event::PendingEvent;
+use can_node_rules::AbortOutcome;
+use sja_journal::{BusFault, Entry};
 
-impl Seat {
+impl BusNode {
     ghost use Rattle.std.specs.Prelude.{◌≡◌, ◌+◌, [], ◌∷◌, ◌++◌, true, OnOk};
     ghost use Rattle.std.specs.Prelude.{OnErr, IfErr};
     ghost use Rattle.sja_link.specs.BusLedgers.{free_in};
-    ghost use Rattle.sja_link.specs.declared.entry.Entry.TheVariants.{Abort as AbortEntry};
-    ghost use Rattle.sja_link.specs.Aborting.{IsApplied};
+    ghost use Rattle.sja_journal.specs.declared.entry.Entry.TheVariants.{Abort as AbortEntry};
+    ghost use Rattle.sja_journal.specs.Aborting.{IsApplied};
     ghost use Rattle.sja_bus.specs.Inside.Following.{Follows, Reads};
-    ghost use Rattle.sja_bus.specs.Inside.Seats.{IsSeat, IsReady};
+    ghost use Rattle.sja_bus.specs.Inside.BusNodes.{IsBusNode, IsReady};
     ghost use Rattle.sja_bus.specs.Inside.Taking.{Applies, IsFull};
     ghost use Rattle.sja_bus.specs.Inside.Turning.{AbortsUntold};
 
@@ -36,17 +35,17 @@ impl Seat {
         };
         match self.node.abort() {
             AbortOutcome::Unchanged => Ok(()),
-            AbortOutcome::Marked => self.enter_abort(PortNews::Changed),
-            AbortOutcome::Dropped => self.enter_abort(PortNews::Dropped),
+            AbortOutcome::Marked => self.enter_abort(PendingEvent::Changed),
+            AbortOutcome::Dropped => self.enter_abort(PendingEvent::Dropped),
         }
     }
 
     /// Writes an abort that changed the node.
-    fn enter_abort(&mut self, untold: PortNews) -> Result<(), BusFault>
+    fn enter_abort(&mut self, untold: PendingEvent) -> Result<(), BusFault>
         requires follows { Follows self.old.node (self.old.journal.entries ++ AbortEntry ∷ []) }
         requires reads { Reads self.old.node (self.old.journal.entries ++ AbortEntry ∷ []) self.old.ended
             self.old.activity (free_in self.old.ledger) }
-        requires seat { IsSeat self.old }
+        requires bus_node { IsBusNode self.old }
         ensures ledger { self.new.ledger ≡ self.old.ledger }
         ensures room { self.new.journal.room ≡ self.old.journal.room }
         ensures ready { OnOk result (IsReady self.new) }

@@ -3,48 +3,51 @@
 ghost use Rattle.std.specs.Prelude.{◌≡◌, ◌<◌, ◌≤◌, ℕ, true, false, slice_index_or};
 ghost use Rattle.std.specs.Prelude.{length, IfOk, OnOk, IfErr, ◌⊎◌};
 ghost use Rattle.lemmas.specs.Related.{EachRelated};
-ghost use Rattle.sja_wire.specs.Wire.{wired};
-ghost use Rattle.sja_link.specs.Links.{AreEnds};
-ghost use Rattle.sja_link.specs.Written.{Room};
-ghost use Rattle.sja_bus.specs.Inside.Rows.{AreReady, AreSeated, AreTold, EachSeat, SeatTakes, SeatUntold};
-ghost use Rattle.sja_bus.specs.Inside.Rows.{SeatOpens, SeatOpensUntold, SeatTurns, GoesAll, AllRead};
-ghost use Rattle.sja_bus.specs.Inside.Rows.{driven_by, SeatBegins};
+ghost use Rattle.can_levels.specs.BusLevel.{wired};
+ghost use Rattle.sja_journal.specs.Links.{AreEnds};
+ghost use Rattle.sja_journal.specs.Written.{Room};
+ghost use Rattle.sja_bus.specs.Inside.Rows.{AreReady, AreOnBus, AreTold, EachBusNode, BusNodeTakes, BusNodeUntold};
+ghost use Rattle.sja_bus.specs.Inside.Rows.{BusNodeOpens, BusNodeOpensUntold, BusNodeTurns, GoesAll, AllRead};
+ghost use Rattle.sja_bus.specs.Inside.Rows.{driven_by, BusNodeBegins};
 ghost use Rattle.sja_bus.specs.Boards.{KeepsOthers};
-ghost use Rattle.sja_bus.specs.declared.seat.Seat.{Seat as Seated};
+ghost use Rattle.sja_bus.specs.declared.bus_node.BusNode.{BusNode as BusNodeValue};
 ghost use Rattle.sja_bus.specs.Inside.Underway.{BreaksUnderway, GoesToAll};
 ghost use Rattle.sja_bus.specs.Inside.Whole.{IsRowBit};
 ghost use Rattle.sja_bus.specs.Inside.RowTakes.{RowTakesAll};
-ghost use Rattle.sja_bus.specs.Inside.Refusing.{HaveRoom, AreFree, SeatRefuses, SeatFull, SeatBreaks};
-ghost use Rattle.sja_bus.specs.Inside.Refusing.{SeatStops};
+ghost use Rattle.sja_bus.specs.Inside.Refusing.{HaveRoom, AreFree, BusNodeRefuses, BusNodeFull, BusNodeBreaks};
+ghost use Rattle.sja_bus.specs.Inside.Refusing.{BusNodeStops};
 ghost use Rattle.sja_bus.specs.Inside.RunningOn.{AreIdleFrom, AreToldFrom, SomeTold, TellsNone};
 
 use super::bit_end::BitEnd;
 use super::board::Board;
+use super::bus_node::BusNode;
 use super::row_frame::RowFrame;
-use super::seat::Seat;
 use super::struck_nodes::StruckNodes;
 use super::wire::{both, level_of, seen};
-use can_bits::Level;
+use can_levels::Level;
+use sja_journal::BusFault;
 use sja_link::BusEnd;
-use sja_wire::BusFault;
 
 /// Takes all that the links show.
-pub(crate) fn gather_all<E: BusEnd>(seats: &mut [Seat], links: &mut [E]) -> Result<(), BusFault>
-    requires few { length seats.old ≤ 8 }
-    requires ends { AreEnds E.node (length seats.old) links.old }
-    requires ready { AreReady seats.old }
+pub(crate) fn gather_all<E: BusEnd>(
+    bus_nodes: &mut [BusNode],
+    links: &mut [E],
+) -> Result<(), BusFault>
+    requires few { length bus_nodes.old ≤ 8 }
+    requires ends { AreEnds E.node (length bus_nodes.old) links.old }
+    requires ready { AreReady bus_nodes.old }
     ensures sames { EachRelated E.same links.old links.new }
-    ensures ready { OnOk result (AreReady seats.new) }
-    ensures goes { OnOk result (GoesAll E.same E.stands seats.old seats.new links.old links.new) }
-    ensures items { OnOk result (EachSeat SeatTakes seats.old seats.new) }
-    ensures untold { OnOk result (EachSeat SeatUntold seats.old seats.new) }
-    ensures dry { OnOk result (AllRead E.dry seats.new links.new) }
-    ensures rooms { (n : ℕ → Room) → HaveRoom n seats.old → HaveRoom n seats.new }
-    ensures within { OnOk result (EachSeat (SeatBegins E.links links.old) seats.old seats.new) }
-    ensures refused { IfErr result (λ f. SeatRefuses E.BusEnd seats.old seats.new links.old links.new f) }
+    ensures ready { OnOk result (AreReady bus_nodes.new) }
+    ensures goes { OnOk result (GoesAll E.same E.stands bus_nodes.old bus_nodes.new links.old links.new) }
+    ensures items { OnOk result (EachBusNode BusNodeTakes bus_nodes.old bus_nodes.new) }
+    ensures untold { OnOk result (EachBusNode BusNodeUntold bus_nodes.old bus_nodes.new) }
+    ensures dry { OnOk result (AllRead E.dry bus_nodes.new links.new) }
+    ensures rooms { (n : ℕ → Room) → HaveRoom n bus_nodes.old → HaveRoom n bus_nodes.new }
+    ensures within { OnOk result (EachBusNode (BusNodeBegins E.links links.old) bus_nodes.old bus_nodes.new) }
+    ensures refused { IfErr result (λ f. BusNodeRefuses E.BusEnd bus_nodes.old bus_nodes.new links.old links.new f) }
 {
-    for k in 0..seats.len() {
-        seats[k].gather(&mut links[k])?;
+    for k in 0..bus_nodes.len() {
+        bus_nodes[k].gather(&mut links[k])?;
     }
     Ok(())
 }
@@ -53,58 +56,58 @@ pub(crate) fn gather_all<E: BusEnd>(seats: &mut [Seat], links: &mut [E]) -> Resu
 /// each sees the level, and the ports are told.
 #[inline(never)]
 pub(crate) fn bit_of_all<E: BusEnd, B: Board>(
-    seats: &mut [Seat],
+    bus_nodes: &mut [BusNode],
     links: &mut [E],
     board: &mut B,
     struck: StruckNodes,
 ) -> Result<(), BusFault>
-    requires seated { AreSeated E.node seats.old links.old (B.ports board.old) }
-    ensures board { KeepsOthers B.ports B.kept (length seats.old) board.old board.new }
+    requires on_bus { AreOnBus E.node bus_nodes.old links.old (B.ports board.old) }
+    ensures board { KeepsOthers B.ports B.kept (length bus_nodes.old) board.old board.new }
     ensures sames { EachRelated E.same links.old links.new }
-    ensures goes { OnOk result (GoesAll E.same E.stands seats.old seats.new links.old links.new) }
-    ensures ready { OnOk result (AreReady seats.new) }
+    ensures goes { OnOk result (GoesAll E.same E.stands bus_nodes.old bus_nodes.new links.old links.new) }
+    ensures ready { OnOk result (AreReady bus_nodes.new) }
     ensures bit { OnOk result (IsRowBit (B.orders_are board.old)
-        (B.told board.old board.new) (B.kept board.old board.new) struck seats.old seats.new) }
-    ensures takes { OnOk result (RowTakesAll E.BusEnd seats.old seats.new links.old) }
-    ensures rooms { (n : ℕ → Room) → HaveRoom n seats.old → HaveRoom n seats.new }
-    ensures facts { OnOk result ((k : ℕ) → k < length seats.old → B.facts board.new k) }
-    ensures within { OnOk result (EachSeat (SeatBegins E.links links.old) seats.old seats.new) }
-    ensures stops { IfErr result (λ f. (SeatRefuses E.BusEnd seats.old seats.new links.old links.new f
-        ⊎ SeatFull E.BusEnd (B.orders_are board.old) seats.old seats.new links.old links.new f)
-        ⊎ SeatStops E.BusEnd (B.orders_are board.old) seats.old seats.new links.old f) }
+        (B.told board.old board.new) (B.kept board.old board.new) struck bus_nodes.old bus_nodes.new) }
+    ensures takes { OnOk result (RowTakesAll E.BusEnd bus_nodes.old bus_nodes.new links.old) }
+    ensures rooms { (n : ℕ → Room) → HaveRoom n bus_nodes.old → HaveRoom n bus_nodes.new }
+    ensures facts { OnOk result ((k : ℕ) → k < length bus_nodes.old → B.facts board.new k) }
+    ensures within { OnOk result (EachBusNode (BusNodeBegins E.links links.old) bus_nodes.old bus_nodes.new) }
+    ensures stops { IfErr result (λ f. (BusNodeRefuses E.BusEnd bus_nodes.old bus_nodes.new links.old links.new f
+        ⊎ BusNodeFull E.BusEnd (B.orders_are board.old) bus_nodes.old bus_nodes.new links.old links.new f)
+        ⊎ BusNodeStops E.BusEnd (B.orders_are board.old) bus_nodes.old bus_nodes.new links.old f) }
 {
-    open_all(seats, links, board)?;
-    let level = level_of(seats);
+    open_all(bus_nodes, links, board)?;
+    let level = level_of(bus_nodes);
     let mut row = RowFrame::none();
-    sample_from(seats, links, level, struck, board, 0, &mut row)?;
+    sample_from(bus_nodes, links, level, struck, board, 0, &mut row)?;
     Ok(())
 }
 
 /// Takes all that the links show, and applies the aborts that stand.
 #[inline(always)]
 fn open_all<E: BusEnd, B: Board>(
-    seats: &mut [Seat],
+    bus_nodes: &mut [BusNode],
     links: &mut [E],
     board: &B,
 ) -> Result<(), BusFault>
-    requires few { length seats.old ≤ 8 }
-    requires ends { AreEnds E.node (length seats.old) links.old }
-    requires ready { AreReady seats.old }
-    requires ports { length seats.old ≤ B.ports board.now }
+    requires few { length bus_nodes.old ≤ 8 }
+    requires ends { AreEnds E.node (length bus_nodes.old) links.old }
+    requires ready { AreReady bus_nodes.old }
+    requires ports { length bus_nodes.old ≤ B.ports board.now }
     ensures sames { EachRelated E.same links.old links.new }
-    ensures ready { OnOk result (AreReady seats.new) }
-    ensures goes { OnOk result (GoesAll E.same E.stands seats.old seats.new links.old links.new) }
-    ensures opens { OnOk result (EachSeat (SeatOpens (B.orders_are board.now)) seats.old seats.new) }
-    ensures untold { OnOk result (EachSeat SeatOpensUntold seats.old seats.new) }
-    ensures dry { OnOk result (AllRead E.dry seats.new links.new) }
-    ensures rooms { (n : ℕ → Room) → HaveRoom n seats.old → HaveRoom n seats.new }
-    ensures facts { OnOk result ((k : ℕ) → k < length seats.old → B.facts board.now k) }
-    ensures within { OnOk result (EachSeat (SeatBegins E.links links.old) seats.old seats.new) }
-    ensures stops { IfErr result (λ f. SeatRefuses E.BusEnd seats.old seats.new links.old links.new f
-        ⊎ SeatFull E.BusEnd (B.orders_are board.now) seats.old seats.new links.old links.new f) }
+    ensures ready { OnOk result (AreReady bus_nodes.new) }
+    ensures goes { OnOk result (GoesAll E.same E.stands bus_nodes.old bus_nodes.new links.old links.new) }
+    ensures opens { OnOk result (EachBusNode (BusNodeOpens (B.orders_are board.now)) bus_nodes.old bus_nodes.new) }
+    ensures untold { OnOk result (EachBusNode BusNodeOpensUntold bus_nodes.old bus_nodes.new) }
+    ensures dry { OnOk result (AllRead E.dry bus_nodes.new links.new) }
+    ensures rooms { (n : ℕ → Room) → HaveRoom n bus_nodes.old → HaveRoom n bus_nodes.new }
+    ensures facts { OnOk result ((k : ℕ) → k < length bus_nodes.old → B.facts board.now k) }
+    ensures within { OnOk result (EachBusNode (BusNodeBegins E.links links.old) bus_nodes.old bus_nodes.new) }
+    ensures stops { IfErr result (λ f. BusNodeRefuses E.BusEnd bus_nodes.old bus_nodes.new links.old links.new f
+        ⊎ BusNodeFull E.BusEnd (B.orders_are board.now) bus_nodes.old bus_nodes.new links.old links.new f) }
 {
-    for k in 0..seats.len() {
-        seats[k].open_bit(&mut links[k], board)?;
+    for k in 0..bus_nodes.len() {
+        bus_nodes[k].open_bit(&mut links[k], board)?;
     }
     Ok(())
 }
@@ -114,7 +117,7 @@ fn open_all<E: BusEnd, B: Board>(
 /// to all.
 #[inline(never)]
 fn sample_from<E: BusEnd, B: Board>(
-    seats: &mut [Seat],
+    bus_nodes: &mut [BusNode],
     links: &mut [E],
     level: Level,
     struck: StruckNodes,
@@ -122,25 +125,25 @@ fn sample_from<E: BusEnd, B: Board>(
     first: usize,
     row: &mut RowFrame,
 ) -> Result<bool, BusFault>
-    requires seated { AreSeated E.node seats.old links.old (B.ports board.old) }
+    requires on_bus { AreOnBus E.node bus_nodes.old links.old (B.ports board.old) }
     ensures sames { EachRelated E.same links.old links.new }
-    ensures rooms { (n : ℕ → Room) → HaveRoom n seats.old → HaveRoom n seats.new }
-    ensures board { KeepsOthers B.ports B.kept (length seats.old) board.old board.new }
-    ensures told { IfOk result (λ told. told ≡ true → AreToldFrom first seats.old →
-        SomeTold (B.told board.old board.new) seats.new) }
+    ensures rooms { (n : ℕ → Room) → HaveRoom n bus_nodes.old → HaveRoom n bus_nodes.new }
+    ensures board { KeepsOthers B.ports B.kept (length bus_nodes.old) board.old board.new }
+    ensures told { IfOk result (λ told. told ≡ true → AreToldFrom first bus_nodes.old →
+        SomeTold (B.told board.old board.new) bus_nodes.new) }
     ensures idle { IfOk result (λ told. told ≡ false → (board.new ≡ board.old)
-        × AreIdleFrom first struck level seats.old seats.new) }
+        × AreIdleFrom first struck level bus_nodes.old bus_nodes.new) }
     ensures before { OnOk result ((m : ℕ) → m < first → B.kept board.old board.new m
-        × ((s : Seated) → slice_index_or seats.new m s ≡ slice_index_or seats.old m s)) }
+        × ((s : BusNodeValue) → slice_index_or bus_nodes.new m s ≡ slice_index_or bus_nodes.old m s)) }
     ensures row { OnOk result (GoesToAll E.BusEnd B.Board struck level first
-        seats.old seats.new links.old links.new board.old board.new) }
+        bus_nodes.old bus_nodes.new links.old links.new board.old board.new) }
     ensures broken { IfErr result (λ f. BreaksUnderway E.BusEnd B.Board struck level first
-        seats.old seats.new links.old board.old f) }
+        bus_nodes.old bus_nodes.new links.old board.old f) }
 {
     let mut told = false;
-    for k in first..seats.len() {
+    for k in first..bus_nodes.len() {
         let sees = seen(level, struck.has(k));
-        let one = seats[k].sample(&mut links[k], sees, board, row)?;
+        let one = bus_nodes[k].sample(&mut links[k], sees, board, row)?;
         told = told | one;
     }
     Ok(told)
@@ -149,33 +152,33 @@ fn sample_from<E: BusEnd, B: Board>(
 /// The same, where something may happen to the first of them.
 #[inline(never)]
 fn tell_from<E: BusEnd, B: Board>(
-    seats: &mut [Seat],
+    bus_nodes: &mut [BusNode],
     links: &mut [E],
     level: Level,
     struck: StruckNodes,
     board: &mut B,
     first: usize,
 ) -> Result<bool, BusFault>
-    requires seated { AreSeated E.node seats.old links.old (B.ports board.old) }
-    requires few { first < length seats.old }
-    requires told { AreToldFrom first seats.old }
+    requires on_bus { AreOnBus E.node bus_nodes.old links.old (B.ports board.old) }
+    requires few { first < length bus_nodes.old }
+    requires told { AreToldFrom first bus_nodes.old }
     ensures sames { EachRelated E.same links.old links.new }
-    ensures rooms { (n : ℕ → Room) → HaveRoom n seats.old → HaveRoom n seats.new }
-    ensures board { KeepsOthers B.ports B.kept (length seats.old) board.old board.new }
-    ensures told { IfOk result (λ told. told ≡ true → SomeTold (B.told board.old board.new) seats.new) }
+    ensures rooms { (n : ℕ → Room) → HaveRoom n bus_nodes.old → HaveRoom n bus_nodes.new }
+    ensures board { KeepsOthers B.ports B.kept (length bus_nodes.old) board.old board.new }
+    ensures told { IfOk result (λ told. told ≡ true → SomeTold (B.told board.old board.new) bus_nodes.new) }
     ensures idle { IfOk result (λ told. told ≡ false → (board.new ≡ board.old)
-        × AreIdleFrom first struck level seats.old seats.new) }
-    ensures before { OnOk result ((m : ℕ) (s : Seated) → m < first →
-        slice_index_or seats.new m s ≡ slice_index_or seats.old m s) }
+        × AreIdleFrom first struck level bus_nodes.old bus_nodes.new) }
+    ensures before { OnOk result ((m : ℕ) (s : BusNodeValue) → m < first →
+        slice_index_or bus_nodes.new m s ≡ slice_index_or bus_nodes.old m s) }
     ensures row { OnOk result (GoesToAll E.BusEnd B.Board struck level first
-        seats.old seats.new links.old links.new board.old board.new) }
+        bus_nodes.old bus_nodes.new links.old links.new board.old board.new) }
     ensures broken { IfErr result (λ f. BreaksUnderway E.BusEnd B.Board struck level first
-        seats.old seats.new links.old board.old f) }
+        bus_nodes.old bus_nodes.new links.old board.old f) }
 {
     let mut row = RowFrame::none();
     let sees = seen(level, struck.has(first));
-    let one = seats[first].sample_and_tell(&mut links[first], sees, board, &mut row)?;
-    let others = sample_from(seats, links, level, struck, board, first + 1, &mut row)?;
+    let one = bus_nodes[first].sample_and_tell(&mut links[first], sees, board, &mut row)?;
+    let others = sample_from(bus_nodes, links, level, struck, board, first + 1, &mut row)?;
     Ok(one | others)
 }
 
@@ -183,38 +186,39 @@ fn tell_from<E: BusEnd, B: Board>(
 /// is something to tell. Answers what all drive together then, and whether some port was told.
 #[inline(always)]
 pub(crate) fn sample_all<E: BusEnd, B: Board>(
-    seats: &mut [Seat],
+    bus_nodes: &mut [BusNode],
     links: &mut [E],
     level: Level,
     struck: StruckNodes,
     board: &mut B,
 ) -> Result<BitEnd, BusFault>
-    requires seated { AreSeated E.node seats.old links.old (B.ports board.old) }
-    requires told { AreTold seats.old }
-    requires free { AreFree 1 seats.old }
+    requires on_bus { AreOnBus E.node bus_nodes.old links.old (B.ports board.old) }
+    requires told { AreTold bus_nodes.old }
+    requires free { AreFree 1 bus_nodes.old }
     ensures sames { EachRelated E.same links.old links.new }
-    ensures ready { OnOk result (AreReady seats.new) }
-    ensures goes { OnOk result (GoesAll E.same E.stands seats.old seats.new links.old links.new) }
-    ensures board { KeepsOthers B.ports B.kept (length seats.old) board.old board.new }
-    ensures turns { OnOk result (EachSeat
-        (SeatTurns (B.told board.old board.new) (B.kept board.old board.new) struck level) seats.old seats.new) }
-    ensures rooms { (n : ℕ → Room) → HaveRoom n seats.old → HaveRoom n seats.new }
-    ensures level { IfOk result (λ end. end.level ≡ wired (driven_by seats.new)) }
-    ensures untold { IfOk result (λ end. end.told ≡ false → TellsNone seats.old seats.new board.old board.new) }
-    ensures told { IfOk result (λ end. end.told ≡ true → SomeTold (B.told board.old board.new) seats.new) }
-    ensures broken { IfErr result (λ f. SeatBreaks E.BusEnd seats.old seats.new links.old f) }
+    ensures ready { OnOk result (AreReady bus_nodes.new) }
+    ensures goes { OnOk result (GoesAll E.same E.stands bus_nodes.old bus_nodes.new links.old links.new) }
+    ensures board { KeepsOthers B.ports B.kept (length bus_nodes.old) board.old board.new }
+    ensures turns { OnOk result (EachBusNode
+        (BusNodeTurns (B.told board.old board.new) (B.kept board.old board.new) struck level) bus_nodes.old
+        bus_nodes.new) }
+    ensures rooms { (n : ℕ → Room) → HaveRoom n bus_nodes.old → HaveRoom n bus_nodes.new }
+    ensures level { IfOk result (λ end. end.level ≡ wired (driven_by bus_nodes.new)) }
+    ensures untold { IfOk result (λ end. end.told ≡ false → TellsNone bus_nodes.old bus_nodes.new board.old board.new) }
+    ensures told { IfOk result (λ end. end.told ≡ true → SomeTold (B.told board.old board.new) bus_nodes.new) }
+    ensures broken { IfErr result (λ f. BusNodeBreaks E.BusEnd bus_nodes.old bus_nodes.new links.old f) }
 {
     let mut next = Level::Recessive;
-    for k in 0..seats.len() {
+    for k in 0..bus_nodes.len() {
         let sees = seen(level, struck.has(k));
-        if !seats[k].sample_quietly(sees) {
-            let told = tell_from(seats, links, level, struck, board, k)?;
+        if !bus_nodes[k].sample_quietly(sees) {
+            let told = tell_from(bus_nodes, links, level, struck, board, k)?;
             return Ok(BitEnd {
-                level: level_of(seats),
+                level: level_of(bus_nodes),
                 told,
             });
         }
-        next = both(next, seats[k].drives);
+        next = both(next, bus_nodes[k].drives);
     }
     Ok(BitEnd {
         level: next,

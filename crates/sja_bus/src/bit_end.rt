@@ -1,6 +1,6 @@
 //! What the nodes of a bus leave to their next bit.
 
-use can_bits::Level;
+use can_levels::Level;
 
 /// How all nodes are after a bit.
 #[derive(Debug, Drop)]

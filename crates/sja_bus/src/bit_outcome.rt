@@ -1,6 +1,6 @@
 //! What a bit brought to a node.
 
-use can_node::BitEvents;
+use can_node_rules::BitEvents;
 
 /// What a bit brought to a node, and what came of the frame that was received with it.
 #[derive(Debug, Drop)]

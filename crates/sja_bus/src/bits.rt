@@ -3,10 +3,10 @@
 ghost use Rattle.std.specs.Prelude.{◌≡◌, ◌+◌, ◌<◌, ◌≤◌, ℕ, true, length, slice_index_or, IfOk};
 ghost use Rattle.std.specs.Prelude.{◌⊎◌, false, IfErr, MatchResult};
 ghost use Rattle.can_node.specs.Stands.{ShowsRest};
-ghost use Rattle.sja_bus.specs.declared.seat.Seat.{Seat as Seated};
+ghost use Rattle.sja_bus.specs.declared.bus_node.BusNode.{BusNode as BusNodeValue};
 ghost use Rattle.sja_bus.specs.Inside.Refusing.{AreFree};
-ghost use Rattle.sja_wire.specs.Wire.{wired};
-ghost use Rattle.sja_bus.specs.Inside.Rows.{AreReady, AreSeated, IsBus, driven_by};
+ghost use Rattle.can_levels.specs.BusLevel.{wired};
+ghost use Rattle.sja_bus.specs.Inside.Rows.{AreReady, AreOnBus, IsBus, driven_by};
 ghost use Rattle.sja_bus.specs.Inside.RunningOn.{MayRunOn, RowsStop};
 ghost use Rattle.sja_bus.specs.Inside.Longest.{KeepsRows, RunsLongest};
 ghost use Rattle.sja_bus.specs.Inside.RunningOn.{AllAtRest, SomeAborts, SomeFull, SomeUntold};
@@ -15,23 +15,23 @@ use super::all_nodes::sample_all;
 use super::board::Board;
 use super::broken_bit::BrokenBit;
 use super::bus::Bus;
+use super::bus_node::BusNode;
 use super::idle_bits::are_at_rest;
 use super::ports::are_told;
-use super::seat::Seat;
 use super::struck_bits::StruckBits;
 use super::struck_nodes::StruckNodes;
 use super::together::run_together;
 use super::wire::level_of;
-use can_bits::Level;
+use can_levels::Level;
+use sja_journal::BusFault;
 use sja_link::BusEnd;
-use sja_wire::BusFault;
 
 impl Bus {
     ghost use Rattle.std.specs.Prelude.{◌≡◌, ◌≤◌, ◌⊎◌, None, Some, Err, true, length, OnOk, IfOk};
     ghost use Rattle.std.specs.Prelude.{IfErr};
-    ghost use Rattle.sja_wire.specs.declared.bus_fault.BusFault.{BusFault as Fault};
-    ghost use Rattle.sja_link.specs.Links.{AreEnds, HaveLinks};
-    ghost use Rattle.sja_wire.specs.Buses.{IsStill};
+    ghost use Rattle.sja_journal.specs.declared.bus_fault.BusFault.{BusFault as Fault};
+    ghost use Rattle.sja_journal.specs.Links.{AreEnds, HaveLinks};
+    ghost use Rattle.sja_bus_rules.specs.Buses.{IsStill};
     ghost use Rattle.sja_bus.specs.Moment.{moment, Keeps};
     ghost use Rattle.sja_bus.specs.Several.{AllRest, RunsBits, StopsBits, WorksIf};
     ghost use Rattle.sja_bus.specs.Inside.RunningOn.{AnyBit, IsSoFar, IsStopped, MayRunBits};
@@ -131,25 +131,26 @@ impl Bus {
 }
 
 /// Whether no port wants an abort, and the ports are told all.
-pub(crate) fn may_run_untaken<B: Board>(seats: &[Seat], board: &B) -> bool
-    requires ready { AreReady seats.now }
-    requires ports { length seats.now ≤ B.ports board.now }
-    ensures may { result ≡ true → MayRunOn B.Board board.now seats.now }
-    ensures no { result ≡ false → SomeAborts (B.orders_are board.now) (length seats.now) ⊎ SomeUntold seats.now }
+pub(crate) fn may_run_untaken<B: Board>(bus_nodes: &[BusNode], board: &B) -> bool
+    requires ready { AreReady bus_nodes.now }
+    requires ports { length bus_nodes.now ≤ B.ports board.now }
+    ensures may { result ≡ true → MayRunOn B.Board board.now bus_nodes.now }
+    ensures no { result ≡ false →
+        SomeAborts (B.orders_are board.now) (length bus_nodes.now) ⊎ SomeUntold bus_nodes.now }
 {
-    for k in 0..seats.len() {
-        if board.orders(seats[k].number()).abort {
+    for k in 0..bus_nodes.len() {
+        if board.orders(bus_nodes[k].number()).abort {
             return false;
         }
     }
-    are_told(seats)
+    are_told(bus_nodes)
 }
 
 /// Bits of all nodes from this one on, at most so many: as far as no node is struck and each journal has room, with
 /// `to_rest` as long as some node works, and up to the first in which a port is told something. Answers how many.
 #[inline(never)]
 pub(crate) fn untaken_bits<E: BusEnd, B: Board>(
-    seats: &mut [Seat],
+    bus_nodes: &mut [BusNode],
     links: &mut [E],
     board: &mut B,
     struck: &mut StruckBits,
@@ -157,24 +158,24 @@ pub(crate) fn untaken_bits<E: BusEnd, B: Board>(
     most: u32,
     to_rest: bool,
 ) -> Result<u32, BrokenBit>
-    requires seated { AreSeated E.node seats.old links.old (B.ports board.old) }
-    requires may { MayRunOn B.Board board.old seats.old }
-    requires bus { IsBus struck.old.script from seats.old }
+    requires on_bus { AreOnBus E.node bus_nodes.old links.old (B.ports board.old) }
+    requires may { MayRunOn B.Board board.old bus_nodes.old }
+    requires bus { IsBus struck.old.script from bus_nodes.old }
     requires on { struck.old.from ≤ from }
     requires within { from + most ≤ struck.old.bits }
     ensures same { struck.new ≡ struck.old }
-    ensures keeps { KeepsRows E.BusEnd B.Board seats.old seats.new links.old links.new board.old board.new }
+    ensures keeps { KeepsRows E.BusEnd B.Board bus_nodes.old bus_nodes.new links.old links.new board.old board.new }
     ensures most { MatchResult result (λ n. n ≤ most) (λ f. f.after < most) }
     ensures runs { IfOk result (λ n. RunsLongest E.BusEnd B.Board to_rest struck.old.script from most
-        seats.old seats.new links.old links.new board.old board.new n) }
+        bus_nodes.old bus_nodes.new links.old links.new board.old board.new n) }
     ensures breaks { IfErr result (λ f. RowsStop E.BusEnd B.Board to_rest struck.old.script from most
-        seats.old seats.new links.old links.new board.old board.new f) }
+        bus_nodes.old bus_nodes.new links.old links.new board.old board.new f) }
 {
-    let fit = room_of(seats, most);
+    let fit = room_of(bus_nodes, most);
     let calm = struck.quiet_for(from, fit);
-    let (mut run, mut level) = (0, level_of(seats));
-    while run < calm && goes_on(seats, to_rest) {
-        let end = match sample_all(seats, links, level, StruckNodes::none(), board) {
+    let (mut run, mut level) = (0, level_of(bus_nodes));
+    while run < calm && goes_on(bus_nodes, to_rest) {
+        let end = match sample_all(bus_nodes, links, level, StruckNodes::none(), board) {
             Ok(end) => end,
             Err(fault) => return Err(BrokenBit { after: run, fault }),
         };
@@ -182,30 +183,38 @@ pub(crate) fn untaken_bits<E: BusEnd, B: Board>(
         if end.told {
             return Ok(run);
         }
-        let together = run_together(seats, calm - run, run, to_rest);
+        let together = run_together(bus_nodes, calm - run, run, to_rest);
         run += together;
-        level = level_after(seats, together, end.level);
+        level = level_after(bus_nodes, together, end.level);
     }
     Ok(run)
 }
 
 /// Whether some node works, where that is asked for.
 #[inline(always)]
-fn goes_on(seats: &[Seat], to_rest: bool) -> bool
-    ensures works { result ≡ true → to_rest ≡ true → (k : ℕ) × (k < length seats.now)
-        × ((s : Seated) → ShowsRest (slice_index_or seats.now k s).node false) }
-    ensures no { result ≡ false → (to_rest ≡ true) × AllAtRest seats.now }
+fn goes_on(bus_nodes: &[BusNode], to_rest: bool) -> bool
+    ensures works { result ≡ true → to_rest ≡ true → (k : ℕ) × (k < length bus_nodes.now)
+        × ((s : BusNodeValue) → ShowsRest (slice_index_or bus_nodes.now k s).node false) }
+    ensures no { result ≡ false → (to_rest ≡ true) × AllAtRest bus_nodes.now }
 {
-    if to_rest { !are_at_rest(seats) } else { true }
+    if to_rest {
+        !are_at_rest(bus_nodes)
+    } else {
+        true
+    }
 }
 
 /// The level that all drive next: this one, where no bit more was run together.
 #[inline(always)]
-fn level_after(seats: &[Seat], together: u32, level: Level) -> Level
-    requires { together ≡ 0 → level ≡ wired (driven_by seats.now) }
-    ensures { result ≡ wired (driven_by seats.now) }
+fn level_after(bus_nodes: &[BusNode], together: u32, level: Level) -> Level
+    requires { together ≡ 0 → level ≡ wired (driven_by bus_nodes.now) }
+    ensures { result ≡ wired (driven_by bus_nodes.now) }
 {
-    if together > 0 { level_of(seats) } else { level }
+    if together > 0 {
+        level_of(bus_nodes)
+    } else {
+        level
+    }
 }
 
 /// As many of these as are left.
@@ -218,14 +227,14 @@ pub(crate) fn fewer(count: u32, left: u64) -> u32
 }
 
 /// For how many bits that are entered alone each journal has room, at most so many.
-fn room_of(seats: &[Seat], most: u32) -> u32
+fn room_of(bus_nodes: &[BusNode], most: u32) -> u32
     ensures most { result ≤ most }
-    ensures free { AreFree result seats.now }
-    ensures least { (result ≡ most) ⊎ SomeFull result seats.now }
+    ensures free { AreFree result bus_nodes.now }
+    ensures least { (result ≡ most) ⊎ SomeFull result bus_nodes.now }
 {
     let mut free = most as usize;
-    for k in 0..seats.len() {
-        free = free.min(seats[k].journal.free());
+    for k in 0..bus_nodes.len() {
+        free = free.min(bus_nodes[k].journal.free());
     }
     free as u32
 }

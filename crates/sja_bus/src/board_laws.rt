@@ -3,7 +3,7 @@
 ghost use Rattle.std.specs.Prelude.{◌⊎◌, ℕ, List, slice_index_or};
 ghost use Rattle.sja_regs.specs.declared.bus_turn.BusTurn.{BusTurn as Turn};
 ghost use Rattle.sja_regs.specs.declared.registers.Registers.{Registers};
-ghost use Rattle.sja_regs.specs.Keeping.{SaysTheSame};
+ghost use Rattle.sja_regs.specs.Preservation.{SaysTheSame};
 ghost use Rattle.sja_bus.specs.Boards.{ShowsTurn};
 
 use super::board::Board;

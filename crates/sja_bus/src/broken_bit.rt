@@ -1,6 +1,6 @@
 //! A bit of a bus that broke off.
 
-use sja_wire::BusFault;
+use sja_journal::BusFault;
 
 /// A bit that broke off, after others.
 #[derive(Debug, Drop)]

@@ -4,13 +4,14 @@ ghost use Rattle.std.specs.Prelude.{◌≡◌, None};
 
 use super::all_nodes::{bit_of_all, gather_all};
 use super::board::Board;
+use super::bus_node::BusNode;
 use super::node_log::logs_of;
-use super::seat::Seat;
 use super::struck_bits::StruckBits;
 use can_frame::OutOfMemory;
-use sja_link::{BusEnd, Endless};
-use sja_script::FaultScript;
-use sja_wire::{BusFault, NodeLog};
+use sja_bus_rules::NodeLog;
+use sja_journal::{BusFault, Endless};
+use sja_link::BusEnd;
+use sja_steps::FaultScript;
 use std::alloc::Global;
 use std::marker::Model;
 
@@ -31,13 +32,13 @@ pub struct Bus {
     pub(crate) run: u64,
     pub(crate) left: u64,
     pub(crate) fault: Option<BusFault>,
-    pub(crate) seats: Vec<Seat>,
+    pub(crate) bus_nodes: Vec<BusNode>,
     logs: Vec<NodeLog>,
 }
 
 impl Model for Bus {
     ghost use Rattle.std.specs.Prelude.{◌≡◌, [], vec_capacity};
-    ghost use Rattle.sja_wire.specs.Buses.{BusValue};
+    ghost use Rattle.sja_bus_rules.specs.Buses.{BusValue};
 
     ghost Value = { BusValue };
 
@@ -51,11 +52,11 @@ impl Model for Bus {
       run = b.run;
       left = b.left;
       fault = b.fault;
-      journals = journals_of b.seats.items;
-      untold = untold_of b.seats.items;
+      journals = journals_of b.bus_nodes.items;
+      untold = untold_of b.bus_nodes.items;
     } };
 
-    ghost invariant = { λ b. IsWhole b.struck b.starts b.steps.items b.run b.left b.fault b.seats.items
+    ghost invariant = { λ b. IsWhole b.struck b.starts b.steps.items b.run b.left b.fault b.bus_nodes.items
         (vec_capacity b.logs)
         × (b.logs.items ≡ []) };
 }
@@ -64,17 +65,17 @@ impl Bus {
     ghost use Rattle.std.specs.Prelude.{◌≡◌, ◌+◌, ◌^◌, ◌<◌, ◌≤◌, ◌⊎◌, ◌≢◌, ℕ, None, Some, Err};
     ghost use Rattle.std.specs.List.{All};
     ghost use Rattle.std.specs.Prelude.{true, false, length, map, slice_index_or, OnOk, OnErr, IfOk, IfErr};
-    ghost use Rattle.sja_wire.specs.declared.bus_fault.BusFault.{BusFault as Fault};
-    ghost use Rattle.sja_wire.specs.declared.bus_fault.BusFault.TheVariants.{BitsSpent};
-    ghost use Rattle.sja_link.specs.Links.{AreEnds, HaveLinks};
-    ghost use Rattle.sja_link.specs.BitEntries.{MayHaveItems};
+    ghost use Rattle.sja_journal.specs.declared.bus_fault.BusFault.{BusFault as Fault};
+    ghost use Rattle.sja_journal.specs.declared.bus_fault.BusFault.TheVariants.{BitsSpent};
+    ghost use Rattle.sja_journal.specs.Links.{AreEnds, HaveLinks};
+    ghost use Rattle.sja_journal.specs.BitEntries.{MayHaveItems};
     ghost use Rattle.lemmas.specs.Related.{EachRelated};
-    ghost use Rattle.sja_wire.specs.declared.node_log.NodeLog.{NodeLog as Log};
-    ghost use Rattle.sja_wire.specs.Lawful.{IsBusRun, CountersAre};
-    ghost use Rattle.sja_wire.specs.Buses.{AreOnLinks, EachJournal, KeepsAll, AllDry};
-    ghost use Rattle.sja_wire.specs.Buses.{new_bus, EachUntold, IsStill};
-    ghost use Rattle.sja_wire.specs.Reasons.{IsTakenAndRefused, StopsBit};
-    ghost use Rattle.sja_wire.specs.Keeping.{KeepsRecord};
+    ghost use Rattle.sja_bus_rules.specs.declared.node_log.NodeLog.{NodeLog as Log};
+    ghost use Rattle.sja_bus_rules.specs.Lawful.{IsBusRun, CountersAre};
+    ghost use Rattle.sja_bus_rules.specs.Buses.{AreOnLinks, EachJournal, KeepsAll, AllDry};
+    ghost use Rattle.sja_bus_rules.specs.Buses.{new_bus, EachUntold, IsStill};
+    ghost use Rattle.sja_bus_rules.specs.Reasons.{IsTakenAndRefused, StopsBit};
+    ghost use Rattle.sja_bus_rules.specs.WholeRecords.{KeepsRecord};
     ghost use Rattle.sja_bus.specs.TakingAll.{TakesAll};
     ghost use Rattle.sja_bus.specs.Moment.{moment, Keeps, OneBit};
 
@@ -97,9 +98,9 @@ impl Bus {
     {
         let count = steps.len();
         let struck = StruckBits::new(alloc, script, bits)?;
-        let mut seats = Vec::with_capacity(alloc, count)?;
+        let mut bus_nodes = Vec::with_capacity(alloc, count)?;
         for node in 0..count {
-            seats.push_reserved(Seat::new(alloc, node as u8, bits, steps[node])?);
+            bus_nodes.push_reserved(BusNode::new(alloc, node as u8, bits, steps[node])?);
         }
         let logs = Vec::with_capacity(alloc, count)?;
         Ok(Bus {
@@ -109,7 +110,7 @@ impl Bus {
             run: 0,
             left: bits,
             fault: None,
-            seats,
+            bus_nodes,
             logs,
         })
     }
@@ -147,7 +148,7 @@ impl Bus {
         if let Some(fault) = self.fault {
             return Err(fault);
         }
-        match gather_all(self.seats.as_mut_slice(), links) {
+        match gather_all(self.bus_nodes.as_mut_slice(), links) {
             Ok(()) => Ok(()),
             Err(fault) => {
                 self.fault = Some(fault);
@@ -204,7 +205,7 @@ impl Bus {
     {
         self.goes_on()?;
         let struck = self.struck.at(self.run);
-        match bit_of_all(self.seats.as_mut_slice(), links, board, struck) {
+        match bit_of_all(self.bus_nodes.as_mut_slice(), links, board, struck) {
             Ok(()) => {
                 self.run += 1;
                 self.left -= 1;
@@ -250,7 +251,11 @@ impl Bus {
         ensures kept { OnOk result (KeepsRecord (self.run + self.left) self.steps (length self.journals)) }
         ensures endless { OnErr result (KeepsRecord (self.run + self.left) self.steps (length self.journals) → ⊥) }
     {
-        let Bus { seats, logs, .. } = self;
-        logs_of(seats, logs)
+        let Bus {
+            bus_nodes,
+            logs,
+            ..
+        } = self;
+        logs_of(bus_nodes, logs)
     }
 }

@@ -1,22 +1,22 @@
 //! Bus-off: the driver is told of it, and it is entered.
 
 use super::activity::Activity;
-use super::seat::Seat;
+use super::bus_node::BusNode;
 use super::verdict::TRIES;
-use sja_link::{BusEnd, Entry};
-use sja_wire::BusFault;
+use sja_journal::{BusFault, Entry};
+use sja_link::BusEnd;
 
-impl Seat {
+impl BusNode {
     ghost use Rattle.std.specs.Prelude.{◌≡◌, suc, [], ◌∷◌, ◌++◌, OnOk};
     ghost use Rattle.std.specs.Prelude.{IfErr, true};
     ghost use Rattle.can_frame.specs.declared.filter.Filter.{Filter as Filtering};
     ghost use Rattle.can_node.specs.Stands.{InReset};
-    ghost use Rattle.sja_link.specs.declared.entry.Entry.TheVariants.{Off as OffEntry};
+    ghost use Rattle.sja_journal.specs.declared.entry.Entry.TheVariants.{Off as OffEntry};
     ghost use Rattle.sja_link.specs.BusLedgers.{link_of};
-    ghost use Rattle.sja_link.specs.Written.{IsFullFor};
+    ghost use Rattle.sja_journal.specs.Written.{IsFullFor};
     ghost use Rattle.sja_bus.specs.declared.activity.Activity.TheVariants.{Running};
-    ghost use Rattle.sja_link.specs.Inside.Moving.{Moves};
-    ghost use Rattle.sja_bus.specs.Inside.Seats.{IsSound, IsSeat, IsMid};
+    ghost use Rattle.sja_link.specs.Moving.{Moves};
+    ghost use Rattle.sja_bus.specs.Inside.BusNodes.{IsSound, IsBusNode, IsMid};
     ghost use Rattle.sja_bus.specs.Inside.Taking.{BreaksBy};
 
     /// Tells the driver of bus-off, and writes it. The put is tried again where the end gives it back.
@@ -25,7 +25,7 @@ impl Seat {
         requires runs { (f : Filtering) × (self.old.activity ≡ Running f) }
         requires mid { IsMid self.old true }
         requires reset { InReset self.old.node }
-        requires seat { IsSeat self.old }
+        requires bus_node { IsBusNode self.old }
         ensures same { E.same end.old end.new }
         ensures room { self.new.journal.room ≡ self.old.journal.room }
         ensures ledger { self.new.ledger ≡ self.old.ledger }
@@ -33,7 +33,7 @@ impl Seat {
         ensures untold { self.new.untold ≡ self.old.untold }
         ensures node { self.new.node ≡ self.old.node }
         ensures sound { OnOk result (IsSound self.new) }
-        ensures seat { OnOk result (IsSeat self.new) }
+        ensures bus_node { OnOk result (IsBusNode self.new) }
         ensures moves { OnOk result
             (Moves E.stands end.old end.new self.old.journal.entries self.new.journal.entries (suc self.old.ended)) }
         ensures entered { OnOk result (self.new.journal.entries ≡ self.old.journal.entries ++ OffEntry ∷ []) }

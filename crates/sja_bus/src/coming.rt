@@ -1,11 +1,11 @@
 //! Whom the strikes of a list hit in a bit, and when the next of them comes.
 
 ghost use Rattle.std.specs.Prelude.{◌≡◌, ◌+◌, ◌^◌, ◌<◌, ◌≤◌, ◌⊎◌, ◌↔◌, ℕ, IsTrue, IfSome, IfNone, false};
-ghost use Rattle.sja_script.specs.Striking.{Hits, IsRepeated, Strikes};
+ghost use Rattle.sja_steps.specs.Striking.{Hits, IsRepeated, Strikes};
 ghost use Rattle.sja_bus.specs.Inside.StrikesByBit.{HasPassed, IsAmong, IsUnhit, IsUnstruck};
 
 use super::struck_nodes::StruckNodes;
-use sja_script::{MOST_NODES, Strike};
+use sja_steps::{MOST_NODES, Strike};
 
 /// The nodes that some of these strikes hit in this bit are struck too.
 pub(crate) fn struck_by(strikes: &[Strike], bit: u64, nodes: &mut StruckNodes)

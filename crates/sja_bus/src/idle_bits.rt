@@ -2,33 +2,33 @@
 
 ghost use Rattle.std.specs.Prelude.{◌≡◌, ◌<◌, ℕ, true, false, length, slice_index_or, ◌≤◌, OnOk, IfErr};
 ghost use Rattle.can_node.specs.Stands.{ShowsRest};
-ghost use Rattle.sja_bus.specs.declared.seat.Seat.{Seat as Seated};
+ghost use Rattle.sja_bus.specs.declared.bus_node.BusNode.{BusNode as BusNodeValue};
 ghost use Rattle.sja_bus.specs.Inside.Idling.{AreResting, IsOneAwake, all_after, IsFullBy};
 ghost use Rattle.sja_bus.specs.Inside.Refusing.{AreFree, HaveRoom};
-ghost use Rattle.sja_link.specs.Written.{Room};
+ghost use Rattle.sja_journal.specs.Written.{Room};
 ghost use Rattle.sja_bus.specs.Inside.Rows.{AreReady};
 
 use super::bits::fewer;
 use super::board::Board;
 use super::bus::Bus;
-use super::port_news::PortNews;
-use super::seat::Seat;
+use super::bus_node::BusNode;
+use super::pending_event::PendingEvent;
+use sja_journal::BusFault;
 use sja_link::BusEnd;
-use sja_wire::BusFault;
 
 impl Bus {
     ghost use Rattle.std.specs.Prelude.{◌≡◌, ◌≢◌, ◌+◌, ◌≤◌, ◌⊎◌, None, Some, Ok, Err, length, OnOk, IfOk};
     ghost use Rattle.std.specs.Prelude.{IfErr, true, false};
     ghost use Rattle.lemmas.specs.Related.{EachRelated};
-    ghost use Rattle.sja_wire.specs.declared.bus_fault.BusFault.{BusFault as Fault};
-    ghost use Rattle.sja_link.specs.Links.{AreEnds, HaveLinks};
-    ghost use Rattle.sja_link.specs.BitEntries.{MayHaveItems};
-    ghost use Rattle.sja_wire.specs.Buses.{AreOnLinks, EachJournal, EachUntold, KeepsAll, AllDry, AllTold};
-    ghost use Rattle.sja_wire.specs.Reasons.{IsTakenAndRefused};
+    ghost use Rattle.sja_journal.specs.declared.bus_fault.BusFault.{BusFault as Fault};
+    ghost use Rattle.sja_journal.specs.Links.{AreEnds, HaveLinks};
+    ghost use Rattle.sja_journal.specs.BitEntries.{MayHaveItems};
+    ghost use Rattle.sja_bus_rules.specs.Buses.{AreOnLinks, EachJournal, EachUntold, KeepsAll, AllDry, AllTold};
+    ghost use Rattle.sja_bus_rules.specs.Reasons.{IsTakenAndRefused};
     ghost use Rattle.sja_bus.specs.Stretches.{IsStretch, EndsStretch, IsOutOfEntries, IsFullInStretch};
     ghost use Rattle.sja_bus.specs.Inside.AtOnce.{RunsAtOnce};
     ghost use Rattle.sja_bus.specs.Inside.Idling.{IsResting, IsAwake, IsFullAfter, after_bits};
-    ghost use Rattle.sja_bus.specs.Inside.Seats.{IsReady};
+    ghost use Rattle.sja_bus.specs.Inside.BusNodes.{IsReady};
 
     /// Takes what the drivers gave, as [`gather`](Bus::gather) does, and then runs up to so many bits at once, as far
     /// as every node is at rest, nothing was taken or is untold, no strike falls and a bit is left. Answers how many.
@@ -97,10 +97,10 @@ impl Bus {
     {
         let most = fewer(count, self.left);
         let bits = self.struck.quiet_for(self.run, most);
-        if bits == 0 || !are_resting(self.seats.as_slice()) {
+        if bits == 0 || !are_resting(self.bus_nodes.as_slice()) {
             return Ok(0);
         }
-        match all_enter_idle_bits(self.seats.as_mut_slice(), bits) {
+        match all_enter_idle_bits(self.bus_nodes.as_mut_slice(), bits) {
             Ok(()) => {
                 self.run += bits as u64;
                 self.left -= bits as u64;
@@ -116,13 +116,13 @@ impl Bus {
 
 /// Whether every node is at rest, and its port is told all. What the ports order isn't asked: an abort finds no
 /// request.
-fn are_resting(seats: &[Seat]) -> bool
-    requires { AreReady seats.now }
-    ensures yes { result ≡ true → AreResting seats.now }
-    ensures no { result ≡ false → IsOneAwake seats.now }
+fn are_resting(bus_nodes: &[BusNode]) -> bool
+    requires { AreReady bus_nodes.now }
+    ensures yes { result ≡ true → AreResting bus_nodes.now }
+    ensures no { result ≡ false → IsOneAwake bus_nodes.now }
 {
-    for k in 0..seats.len() {
-        if !seats[k].is_resting() {
+    for k in 0..bus_nodes.len() {
+        if !bus_nodes[k].is_resting() {
             return false;
         }
     }
@@ -130,14 +130,14 @@ fn are_resting(seats: &[Seat]) -> bool
 }
 
 /// Whether every node is at rest.
-pub(crate) fn are_at_rest(seats: &[Seat]) -> bool
-    ensures rest { result ≡ true → (k : ℕ) (s : Seated) → k < length seats.now →
-        ShowsRest (slice_index_or seats.now k s).node true }
-    ensures busy { result ≡ false → (k : ℕ) × (k < length seats.now)
-        × ((s : Seated) → ShowsRest (slice_index_or seats.now k s).node false) }
+pub(crate) fn are_at_rest(bus_nodes: &[BusNode]) -> bool
+    ensures rest { result ≡ true → (k : ℕ) (s : BusNodeValue) → k < length bus_nodes.now →
+        ShowsRest (slice_index_or bus_nodes.now k s).node true }
+    ensures busy { result ≡ false → (k : ℕ) × (k < length bus_nodes.now)
+        × ((s : BusNodeValue) → ShowsRest (slice_index_or bus_nodes.now k s).node false) }
 {
-    for k in 0..seats.len() {
-        if !seats[k].node.at_rest() {
+    for k in 0..bus_nodes.len() {
+        if !bus_nodes[k].node.at_rest() {
             return false;
         }
     }
@@ -145,41 +145,41 @@ pub(crate) fn are_at_rest(seats: &[Seat]) -> bool
 }
 
 /// So many recessive bits of all nodes, which are at rest.
-fn all_enter_idle_bits(seats: &mut [Seat], count: u32) -> Result<(), BusFault>
-    requires ready { AreReady seats.old }
-    ensures rooms { (n : ℕ → Room) → HaveRoom n seats.old → HaveRoom n seats.new }
-    ensures rested { OnOk result (seats.new ≡ all_after count seats.old) }
-    ensures full { IfErr result (λ f. IsFullBy count seats.old seats.new f) }
+fn all_enter_idle_bits(bus_nodes: &mut [BusNode], count: u32) -> Result<(), BusFault>
+    requires ready { AreReady bus_nodes.old }
+    ensures rooms { (n : ℕ → Room) → HaveRoom n bus_nodes.old → HaveRoom n bus_nodes.new }
+    ensures rested { OnOk result (bus_nodes.new ≡ all_after count bus_nodes.old) }
+    ensures full { IfErr result (λ f. IsFullBy count bus_nodes.old bus_nodes.new f) }
 {
-    for k in 0..seats.len() {
-        seats[k].enter_idle_bits(count)?;
+    for k in 0..bus_nodes.len() {
+        bus_nodes[k].enter_idle_bits(count)?;
     }
     Ok(())
 }
 
 /// The same, for which each journal has room.
-pub(crate) fn all_rest(seats: &mut [Seat], count: u32)
-    requires free { AreFree count seats.old }
-    ensures { seats.new ≡ all_after count seats.old }
+pub(crate) fn all_rest(bus_nodes: &mut [BusNode], count: u32)
+    requires free { AreFree count bus_nodes.old }
+    ensures { bus_nodes.new ≡ all_after count bus_nodes.old }
 {
-    for k in 0..seats.len() {
-        seats[k].rest(count);
+    for k in 0..bus_nodes.len() {
+        bus_nodes[k].rest(count);
     }
 }
 
-impl Seat {
+impl BusNode {
     ghost use Rattle.std.specs.Prelude.{◌≡◌, ◌≢◌, ◌+◌, ◌-◌, ◌≤◌, ◌⊎◌, None, Some, Ok, Err, length, OnOk, IfOk};
     ghost use Rattle.std.specs.Prelude.{IfErr, true, false};
     ghost use Rattle.lemmas.specs.Related.{EachRelated};
-    ghost use Rattle.sja_wire.specs.declared.bus_fault.BusFault.{BusFault as Fault};
-    ghost use Rattle.sja_link.specs.Links.{AreEnds, HaveLinks};
-    ghost use Rattle.sja_link.specs.BitEntries.{MayHaveItems};
-    ghost use Rattle.sja_wire.specs.Buses.{AreOnLinks, EachJournal, EachUntold, KeepsAll, AllDry, AllTold};
-    ghost use Rattle.sja_wire.specs.Reasons.{IsTakenAndRefused};
+    ghost use Rattle.sja_journal.specs.declared.bus_fault.BusFault.{BusFault as Fault};
+    ghost use Rattle.sja_journal.specs.Links.{AreEnds, HaveLinks};
+    ghost use Rattle.sja_journal.specs.BitEntries.{MayHaveItems};
+    ghost use Rattle.sja_bus_rules.specs.Buses.{AreOnLinks, EachJournal, EachUntold, KeepsAll, AllDry, AllTold};
+    ghost use Rattle.sja_bus_rules.specs.Reasons.{IsTakenAndRefused};
     ghost use Rattle.sja_bus.specs.Stretches.{IsStretch, EndsStretch, IsOutOfEntries, IsFullInStretch};
     ghost use Rattle.sja_bus.specs.Inside.AtOnce.{RunsAtOnce};
     ghost use Rattle.sja_bus.specs.Inside.Idling.{IsResting, IsAwake, IsFullAfter, after_bits};
-    ghost use Rattle.sja_bus.specs.Inside.Seats.{IsReady};
+    ghost use Rattle.sja_bus.specs.Inside.BusNodes.{IsReady};
 
     /// Whether the node is at rest, and its port is told all.
     fn is_resting(&self) -> bool
@@ -188,7 +188,7 @@ impl Seat {
         ensures no { result ≡ false → IsAwake self.now }
     {
         match self.untold {
-            PortNews::Nothing => self.node.at_rest(),
+            PendingEvent::Nothing => self.node.at_rest(),
             _ => false,
         }
     }

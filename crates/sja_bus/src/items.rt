@@ -2,32 +2,32 @@
 
 use super::activity::Activity;
 use super::board::Board;
-use super::port_news::PortNews;
-use super::seat::Seat;
-use can_node::{Config, Request};
-use sja_link::{BadCredit, BusEnd, BusLedger, Entry, LinkId, Up};
-use sja_wire::BusFault;
+use super::bus_node::BusNode;
+use super::pending_event::PendingEvent;
+use can_node_rules::{Config, Request};
+use sja_journal::{BusFault, Entry, Up};
+use sja_link::{BadCredit, BusEnd, BusLedger, LinkId};
 
-impl Seat {
+impl BusNode {
     ghost use Rattle.std.specs.Prelude.{◌≡◌, ◌<◌, [], ◌∷◌, ◌++◌, true, OnOk};
     ghost use Rattle.std.specs.Prelude.{IfErr, ◌⊎◌, ◌≤◌, ℕ, suc, Ok, false};
     ghost use Rattle.sja_link.specs.BusLedgers.{link_of};
-    ghost use Rattle.sja_link.specs.Written.{Fits};
-    ghost use Rattle.sja_link.specs.Opening.{BeginsWithin};
-    ghost use Rattle.sja_link.specs.declared.entry.Entry.TheVariants.{Up as Item};
-    ghost use Rattle.sja_link.specs.Inside.Moving.{Goes, Moves};
-    ghost use Rattle.sja_wire.specs.Opens.{Opens};
-    ghost use Rattle.sja_link.specs.BitEntries.{MayHaveItems};
-    ghost use Rattle.sja_wire.specs.Reasons.{RefusesItem};
-    ghost use Rattle.sja_bus.specs.Inside.Seats.{IsSeat, IsReady, IsOwed};
+    ghost use Rattle.sja_journal.specs.Written.{Fits};
+    ghost use Rattle.sja_journal.specs.Opening.{BeginsWithin};
+    ghost use Rattle.sja_journal.specs.declared.entry.Entry.TheVariants.{Up as Item};
+    ghost use Rattle.sja_link.specs.Moving.{Goes, Moves};
+    ghost use Rattle.sja_bus_rules.specs.Opens.{Opens};
+    ghost use Rattle.sja_journal.specs.BitEntries.{MayHaveItems};
+    ghost use Rattle.sja_bus_rules.specs.Reasons.{RefusesItem};
+    ghost use Rattle.sja_bus.specs.Inside.BusNodes.{IsBusNode, IsReady, IsOwed};
     ghost use Rattle.sja_bus.specs.Inside.AtLinks.{HasEnd, KeepsEnd};
     ghost use Rattle.sja_bus.specs.Inside.Taking.{FullForAbort, Takes, Refuses, RefusesHere};
     ghost use Rattle.sja_bus.specs.Inside.Turning.{TakesUntold, OpensUntold};
-    ghost use Rattle.sja_link.specs.declared.up.Up.TheVariants.{Start, Credit, Send, Stop};
-    ghost use Rattle.sja_link.specs.declared.up.Up.{Up as Given};
-    ghost use Rattle.sja_link.specs.Places.{past, place_of};
-    ghost use Rattle.sja_bus.specs.declared.port_news.PortNews.TheVariants.{Changed};
-    ghost use Rattle.sja_link.specs.OutOfOrder.{IsOutOfOrder};
+    ghost use Rattle.sja_journal.specs.declared.up.Up.TheVariants.{Start, Credit, Send, Stop};
+    ghost use Rattle.sja_journal.specs.declared.up.Up.{Up as Given};
+    ghost use Rattle.sja_journal.specs.Places.{past, place_of};
+    ghost use Rattle.sja_bus.specs.declared.pending_event.PendingEvent.TheVariants.{Changed};
+    ghost use Rattle.sja_journal.specs.OutOfOrder.{IsOutOfOrder};
 
     /// Takes all that the links show, and then applies an abort that stands.
     #[inline(always)]
@@ -107,7 +107,7 @@ impl Seat {
             Ok(None) => Ok(false),
             Ok(Some(item)) => {
                 self.note(item)?;
-                self.untold = PortNews::Changed;
+                self.untold = PendingEvent::Changed;
                 self.drives = self.node.drive();
                 Ok(true)
             }
@@ -119,7 +119,7 @@ impl Seat {
     #[inline(always)]
     fn note(&mut self, item: Up) -> Result<(), BusFault>
         requires owed { IsOwed self.old (Item item) }
-        requires seat { IsSeat self.old }
+        requires bus_node { IsBusNode self.old }
         requires some { (bytes : ℕ) → item ≡ Credit bytes → (3 ≤ bytes) × (bytes ≤ 13) }
         ensures node { (link_of self.new.ledger).node ≡ (link_of self.old.ledger).node }
         ensures room { self.new.journal.room ≡ self.old.journal.room }
@@ -137,7 +137,7 @@ impl Seat {
     /// A start was taken.
     fn begin(&mut self, config: Config) -> Result<(), BusFault>
         requires owed { IsOwed self.old (Item (Start config)) }
-        requires seat { IsSeat self.old }
+        requires bus_node { IsBusNode self.old }
         ensures node { (link_of self.new.ledger).node ≡ (link_of self.old.ledger).node }
         ensures room { self.new.journal.room ≡ self.old.journal.room }
         ensures takes { OnOk result (Takes self.old self.new (Start config)) }
@@ -154,7 +154,7 @@ impl Seat {
     /// A credit was taken. Between two activations none can be: all 64 bytes are free there.
     fn credited(&mut self, bytes: u8) -> Result<(), BusFault>
         requires owed { IsOwed self.old (Item (Credit bytes)) }
-        requires seat { IsSeat self.old }
+        requires bus_node { IsBusNode self.old }
         requires some { (3 ≤ bytes) × (bytes ≤ 13) }
         ensures node { (link_of self.new.ledger).node ≡ (link_of self.old.ledger).node }
         ensures room { self.new.journal.room ≡ self.old.journal.room }
@@ -167,7 +167,7 @@ impl Seat {
     /// A request was taken.
     fn ask(&mut self, request: Request) -> Result<(), BusFault>
         requires owed { IsOwed self.old (Item (Send request)) }
-        requires seat { IsSeat self.old }
+        requires bus_node { IsBusNode self.old }
         ensures node { (link_of self.new.ledger).node ≡ (link_of self.old.ledger).node }
         ensures room { self.new.journal.room ≡ self.old.journal.room }
         ensures takes { OnOk result (Takes self.old self.new (Send request)) }
@@ -189,7 +189,7 @@ impl Seat {
     /// A stop was taken: the next link is read from now on.
     fn end(&mut self) -> Result<(), BusFault>
         requires owed { IsOwed self.old (Item Stop) }
-        requires seat { IsSeat self.old }
+        requires bus_node { IsBusNode self.old }
         ensures node { (link_of self.new.ledger).node ≡ (link_of self.old.ledger).node }
         ensures room { self.new.journal.room ≡ self.old.journal.room }
         ensures takes { OnOk result (Takes self.old self.new Stop) }

@@ -6,8 +6,8 @@ ghost use Rattle.sja_bus.specs.Inside.StrikesByBit.{StrikeAlike};
 use super::coming::{is_coming, next_strike, struck_by};
 use super::struck_nodes::StruckNodes;
 use can_frame::OutOfMemory;
-use sja_link::Forgotten;
-use sja_script::Strike;
+use sja_journal::Dropped;
+use sja_steps::Strike;
 use std::alloc::Global;
 use std::fmt::{self, Debug, Formatter};
 use std::marker::Model;
@@ -26,7 +26,7 @@ pub(crate) struct LaterStrikes {
     many: usize,
     from: u64,
     /// All that came.
-    came: Forgotten<Strike>,
+    came: Dropped<Strike>,
 }
 
 impl Model for LaterStrikes {
@@ -41,7 +41,7 @@ impl Model for LaterStrikes {
 
 impl LaterStrikes {
     ghost use Rattle.std.specs.Prelude.{◌≡◌, ◌^◌, ◌<◌, ◌≤◌, ◌⊎◌, ◌↔◌, ◌++◌, ℕ, [], ◌∷◌, OnOk, OnErr};
-    ghost use Rattle.sja_script.specs.Striking.{Strikes};
+    ghost use Rattle.sja_steps.specs.Striking.{Strikes};
     ghost use Rattle.sja_bus.specs.Inside.StrikesByBit.{IsAmong, IsUnstruck};
 
     /// None.
@@ -52,7 +52,7 @@ impl LaterStrikes {
             kept: Vec::new(alloc),
             many: MANY,
             from: 0,
-            came: Forgotten::new(),
+            came: Dropped::new(),
         }
     }
 

@@ -5,11 +5,11 @@ use super::idle_bits::are_at_rest;
 
 impl Bus {
     ghost use Rattle.std.specs.Prelude.{◌≡◌, ◌≢◌, ◌<◌, ℕ, None, true, false, length};
-    ghost use Rattle.sja_link.specs.Places.{place_of};
-    ghost use Rattle.sja_link.specs.Records.{record_of};
-    ghost use Rattle.sja_wire.specs.Lawful.{IsBusRun};
-    ghost use Rattle.sja_wire.specs.Wire.{journal_at};
-    ghost use Rattle.sja_bus.specs.Resting.{RestsAs};
+    ghost use Rattle.sja_journal.specs.Places.{place_of};
+    ghost use Rattle.sja_journal.specs.Records.{record_of};
+    ghost use Rattle.sja_bus_rules.specs.Lawful.{IsBusRun};
+    ghost use Rattle.sja_bus_rules.specs.Wire.{journal_at};
+    ghost use Rattle.sja_bus.specs.BusRest.{RestsAs};
 
     /// Whether every node is at rest: in reset, or idle with no request. What holds of every bus is said beside it.
     pub fn at_rest(&self) -> bool
@@ -19,7 +19,7 @@ impl Bus {
         ensures busy { self.now.fault ≡ None → result ≡ false → (node : ℕ) × (node < length self.now.journals)
             × RestsAs (record_of (journal_at self.now.journals node)) false }
     {
-        are_at_rest(self.seats.as_slice())
+        are_at_rest(self.bus_nodes.as_slice())
     }
 
     /// Whether a start of this node was taken; not where there is no such node.
@@ -30,9 +30,9 @@ impl Bus {
             (place_of (journal_at self.now.journals node)).activation ≡ 0 }
     {
         let place = usize::from(node);
-        if place >= self.seats.len() {
+        if place >= self.bus_nodes.len() {
             return false;
         }
-        self.seats[place].has_begun()
+        self.bus_nodes[place].has_begun()
     }
 }

@@ -3,26 +3,26 @@
 use super::activity::Activity;
 use super::bit_outcome::BitOutcome;
 use super::board::Board;
-use super::port_news::PortNews;
+use super::bus_node::BusNode;
+use super::pending_event::PendingEvent;
 use super::row_frame::RowFrame;
-use super::seat::Seat;
 use super::verdict::passing;
-use can_bits::Level;
-use sja_link::{BusEnd, Entry};
-use sja_wire::BusFault;
+use can_levels::Level;
+use sja_journal::{BusFault, Entry};
+use sja_link::BusEnd;
 
-impl Seat {
+impl BusNode {
     ghost use Rattle.std.specs.Prelude.{◌≡◌, ◌<◌, true, false, length, OnOk, IfOk, IfErr, suc, [], ◌∷◌, ◌++◌};
     ghost use Rattle.can_node.specs.Stands.{Samples, InReset};
     ghost use Rattle.sja_link.specs.BusLedgers.{link_of};
-    ghost use Rattle.sja_link.specs.Inside.Moving.{Goes, Moves};
-    ghost use Rattle.sja_bus.specs.Inside.Seats.{IsSound, IsSeat, IsReady, IsMid};
+    ghost use Rattle.sja_link.specs.Moving.{Goes, Moves};
+    ghost use Rattle.sja_bus.specs.Inside.BusNodes.{IsSound, IsBusNode, IsReady, IsMid};
     ghost use Rattle.sja_bus.specs.Inside.AtLinks.{HasEnd, KeepsEnd};
-    ghost use Rattle.sja_bus.specs.declared.port_news.PortNews.TheVariants.{Nothing};
-    ghost use Rattle.sja_bus.specs.Inside.SeatBits.{BreaksInBit, HadBit, KeepsInBit};
+    ghost use Rattle.sja_bus.specs.declared.pending_event.PendingEvent.TheVariants.{Nothing};
+    ghost use Rattle.sja_bus.specs.Inside.BusNodeBits.{BreaksInBit, HadBit, KeepsInBit};
     ghost use Rattle.sja_bus.specs.Inside.Turning.{Brings, IsQuietBit, BringsVerdict};
     ghost use Rattle.can_frame.specs.declared.filter.Filter.{Filter as Filtering};
-    ghost use Rattle.sja_link.specs.declared.entry.Entry.TheVariants.{Bit};
+    ghost use Rattle.sja_journal.specs.declared.entry.Entry.TheVariants.{Bit};
     ghost use Rattle.sja_bus.specs.declared.activity.Activity.TheVariants.{Running};
     ghost use Rattle.sja_bus.specs.Inside.Taking.{IsBitShort};
 
@@ -78,7 +78,7 @@ impl Seat {
         ensures told { result ≡ true → self.now.untold ≡ Nothing }
         ensures free { result ≡ true → length self.now.journal.entries < self.now.journal.room.all }
     {
-        if let PortNews::Nothing = self.untold {
+        if let PendingEvent::Nothing = self.untold {
             self.journal.is_open()
         } else {
             false
@@ -117,7 +117,7 @@ impl Seat {
         requires at { HasEnd E.node self.old end.old }
         ensures stays { KeepsEnd E.same self.old self.new end.old end.new }
         ensures sound { OnOk result (IsSound self.new) }
-        ensures seat { OnOk result (IsSeat self.new) }
+        ensures bus_node { OnOk result (IsBusNode self.new) }
         ensures untold { self.new.untold ≡ self.old.untold }
         ensures samples { IfOk result (λ outcome. Samples self.old.node self.new.node seen outcome.events) }
         ensures goes { OnOk result
@@ -140,7 +140,7 @@ impl Seat {
         ensures kept { (self.new.ended ≡ self.old.ended) × (self.new.ledger ≡ self.old.ledger) }
         ensures untold { self.new.untold ≡ self.old.untold }
         ensures sound { OnOk result (IsSound self.new) }
-        ensures seat { OnOk result (IsSeat self.new) }
+        ensures bus_node { OnOk result (IsBusNode self.new) }
         ensures samples { IfOk result (λ outcome. Samples self.old.node self.new.node seen outcome.events) }
         ensures entered { OnOk result
             (self.new.journal.entries ≡ self.old.journal.entries ++ Bit self.old.drives seen ∷ []) }
@@ -171,7 +171,7 @@ impl Seat {
         ensures untold { self.new.untold ≡ self.old.untold }
         ensures same { E.same end.old end.new }
         ensures sound { OnOk result (IsSound self.new) }
-        ensures seat { OnOk result (IsSeat self.new) }
+        ensures bus_node { OnOk result (IsBusNode self.new) }
         ensures samples { IfOk result (λ outcome. Samples self.old.node self.new.node seen outcome.events) }
         ensures moves { OnOk result
             (Moves E.stands end.old end.new self.old.journal.entries self.new.journal.entries (suc self.old.ended)) }

@@ -1,7 +1,7 @@
 //! The links of a bus: those of one in one thread, and whether given ends are of its nodes.
 
 ghost use Rattle.std.specs.Prelude.{◌≡◌, ◌<◌, ◌≤◌, ◌^◌, true, false, IfOk};
-ghost use Rattle.sja_link.specs.Links.{AreEnds, HaveLinks};
+ghost use Rattle.sja_journal.specs.Links.{AreEnds, HaveLinks};
 ghost use Rattle.sja_link.specs.NewLinks.{AreNewLinks};
 
 use can_frame::OutOfMemory;

@@ -3,33 +3,33 @@
 ghost use Rattle.std.specs.Prelude.{◌≡◌, ◌≤◌, [], vec_len, vec_capacity, IfOk, OnOk, OnErr};
 ghost use Rattle.lemmas.specs.Related.{EachRelated};
 ghost use Rattle.std.specs.List.{All};
-ghost use Rattle.sja_link.specs.Recents.{KeepsAll};
+ghost use Rattle.sja_journal.specs.BoundedHistories.{KeepsAll};
 ghost use Rattle.sja_bus.specs.Inside.Ending.{IsLog};
 
-use super::seat::Seat;
-use sja_link::Endless;
-use sja_wire::NodeLog;
+use super::bus_node::BusNode;
+use sja_bus_rules::NodeLog;
+use sja_journal::Endless;
 
 /// What is left of all nodes, in order.
 ///
 /// Error: [`Endless`] where a journal was made for more entries than it keeps.
-pub(crate) fn logs_of(seats: Vec<Seat>, logs: Vec<NodeLog>) -> Result<Vec<NodeLog>, Endless>
+pub(crate) fn logs_of(bus_nodes: Vec<BusNode>, logs: Vec<NodeLog>) -> Result<Vec<NodeLog>, Endless>
     requires none { logs.items ≡ [] }
-    requires room { vec_len seats ≤ vec_capacity logs }
-    ensures logs { IfOk result (λ all. EachRelated IsLog seats.items all.items) }
-    ensures kept { OnOk result (All (λ s. KeepsAll s.journal.room.all) seats.items) }
-    ensures endless { OnErr result (All (λ s. KeepsAll s.journal.room.all) seats.items → ⊥) }
+    requires room { vec_len bus_nodes ≤ vec_capacity logs }
+    ensures logs { IfOk result (λ all. EachRelated IsLog bus_nodes.items all.items) }
+    ensures kept { OnOk result (All (λ s. KeepsAll s.journal.room.all) bus_nodes.items) }
+    ensures endless { OnErr result (All (λ s. KeepsAll s.journal.room.all) bus_nodes.items → ⊥) }
 {
     let mut logs = logs;
-    for seat in seats {
-        logs.push_reserved(seat.into_log()?);
+    for bus_node in bus_nodes {
+        logs.push_reserved(bus_node.into_log()?);
     }
     Ok(logs)
 }
 
-impl Seat {
+impl BusNode {
     ghost use Rattle.std.specs.Prelude.{IfOk, OnOk, OnErr};
-    ghost use Rattle.sja_link.specs.Recents.{KeepsAll};
+    ghost use Rattle.sja_journal.specs.BoundedHistories.{KeepsAll};
     ghost use Rattle.sja_bus.specs.Inside.Ending.{IsLog};
 
     /// What is left of the node at the end of a run.
@@ -40,7 +40,7 @@ impl Seat {
         ensures kept { OnOk result (KeepsAll self.journal.room.all) }
         ensures endless { OnErr result (KeepsAll self.journal.room.all → ⊥) }
     {
-        let Seat { node, journal, .. } = self;
+        let BusNode { node, journal, .. } = self;
         let counters = node.counters();
         let journal = journal.into_journal()?;
         Ok(NodeLog {

@@ -1,7 +1,7 @@
 //! What the port of a controller is told of a bit, and whether all ports are told.
 
 ghost use Rattle.std.specs.Prelude.{◌≡◌, ◌≢◌, true, false};
-ghost use Rattle.can_node.specs.Stands.{nothing};
+ghost use Rattle.can_node_rules.specs.Outcomes.{nothing};
 ghost use Rattle.sja_bus.specs.Inside.Turning.{SaysAs};
 ghost use Rattle.sja_bus.specs.Inside.Rows.{AreTold};
 ghost use Rattle.sja_bus.specs.Inside.RunningOn.{SomeUntold};
@@ -9,21 +9,21 @@ ghost use Rattle.sja_bus.specs.Inside.RunningOn.{SomeUntold};
 use super::activity::Activity;
 use super::bit_outcome::BitOutcome;
 use super::board::Board;
-use super::port_news::PortNews;
-use super::seat::Seat;
-use can_node::BitEvents;
+use super::bus_node::BusNode;
+use super::pending_event::PendingEvent;
+use can_node_rules::BitEvents;
 use sja_regs::BusTurn;
 
-impl Seat {
+impl BusNode {
     ghost use Rattle.std.specs.Prelude.{◌≡◌, ◌≢◌, ◌+◌, ◌<◌, ℕ, true, false};
     ghost use Rattle.sja_regs.specs.declared.bus_turn.BusTurn.{BusTurn as Turn};
-    ghost use Rattle.sja_wire.specs.Telling.{SaysAlone};
-    ghost use Rattle.can_node.specs.Stands.{nothing};
+    ghost use Rattle.sja_bus_rules.specs.Telling.{SaysAlone};
+    ghost use Rattle.can_node_rules.specs.Outcomes.{nothing};
     ghost use Rattle.sja_link.specs.BusLedgers.{link_of};
-    ghost use Rattle.sja_bus.specs.declared.port_news.PortNews.TheVariants.{Nothing};
+    ghost use Rattle.sja_bus.specs.declared.pending_event.PendingEvent.TheVariants.{Nothing};
     ghost use Rattle.sja_bus.specs.Inside.Following.{open_in};
     ghost use Rattle.sja_bus.specs.Inside.Turning.{TellsTurn, TurnOf, is_dropped};
-    ghost use Rattle.sja_bus.specs.Inside.Seats.{IsSound, IsSeat};
+    ghost use Rattle.sja_bus.specs.Inside.BusNodes.{IsSound, IsBusNode};
 
     /// Tells the port what a bit brought, unless all was told and the bit brought nothing: `stands` is what stood
     /// before it. Nothing is left to be told. Answers whether the port was told.
@@ -34,11 +34,11 @@ impl Seat {
         outcome: BitOutcome,
         stands: &BusTurn,
     ) -> bool
-        requires seat { IsSeat self.old }
+        requires bus_node { IsBusNode self.old }
         requires sound { IsSound self.old }
         requires port { (link_of self.old.ledger).node < B.ports board.old }
         requires nothing { stands.now.events ≡ nothing stands.now.events.receiving }
-        ensures seat { self.new ≡ record self.old { untold = Nothing } }
+        ensures bus_node { self.new ≡ record self.old { untold = Nothing } }
         ensures ports { B.ports board.new ≡ B.ports board.old }
         ensures others { (k : ℕ) → k ≢ (link_of self.old.ledger).node → B.kept board.old board.new k }
         ensures told { (turn : Turn) × TurnOf self.old outcome.events outcome.overrun turn
@@ -50,7 +50,7 @@ impl Seat {
             return false;
         }
         board.bus_turn(self.number(), turn);
-        self.untold = PortNews::Nothing;
+        self.untold = PendingEvent::Nothing;
         true
     }
 
@@ -62,14 +62,14 @@ impl Seat {
         ensures no { result ≡ false → self.now.untold ≡ Nothing → turn.now ≢ stands.now }
     {
         match self.untold {
-            PortNews::Nothing => is_nothing(&turn.events) & says_as(turn, stands),
+            PendingEvent::Nothing => is_nothing(&turn.events) & says_as(turn, stands),
             _ => false,
         }
     }
 
     /// The turn that says what stands, and nothing else.
     pub(crate) fn stands(&self) -> BusTurn
-        requires seat { IsSeat self.now }
+        requires bus_node { IsBusNode self.now }
         requires sound { IsSound self.now }
         ensures alone { self.now.untold ≡ Nothing → SaysAlone self.now.journal.entries result }
         ensures nothing { result.events ≡ nothing result.events.receiving }
@@ -83,7 +83,7 @@ impl Seat {
 
     /// What a bit brought, and how the node is after it.
     fn turn_of(&self, outcome: BitOutcome) -> BusTurn
-        requires seat { IsSeat self.now }
+        requires bus_node { IsBusNode self.now }
         requires follows { IsSound self.now }
         ensures { TurnOf self.now outcome.events outcome.overrun result }
     {
@@ -102,7 +102,7 @@ impl Seat {
 
     /// The activation that the bus reads, counted from 1; between two the one that ended last.
     fn activation(&self) -> u64
-        requires { IsSeat self.now }
+        requires { IsBusNode self.now }
         ensures { result ≡ self.now.ended + open_in self.now.activity }
     {
         match self.activity {
@@ -116,7 +116,7 @@ impl Seat {
         ensures { result ≡ is_dropped self.now.untold }
     {
         match self.untold {
-            PortNews::Dropped => true,
+            PendingEvent::Dropped => true,
             _ => false,
         }
     }
@@ -150,12 +150,12 @@ fn says_as(turn: &BusTurn, other: &BusTurn) -> bool
 }
 
 /// Whether no port is to be told anything.
-pub(crate) fn are_told(seats: &[Seat]) -> bool
-    ensures yes { result ≡ true → AreTold seats.now }
-    ensures no { result ≡ false → SomeUntold seats.now }
+pub(crate) fn are_told(bus_nodes: &[BusNode]) -> bool
+    ensures yes { result ≡ true → AreTold bus_nodes.now }
+    ensures no { result ≡ false → SomeUntold bus_nodes.now }
 {
-    for k in 0..seats.len() {
-        let PortNews::Nothing = seats[k].untold else {
+    for k in 0..bus_nodes.len() {
+        let PendingEvent::Nothing = bus_nodes[k].untold else {
             return false;
         };
     }

@@ -2,11 +2,11 @@
 
 use super::bus::Bus;
 use can_frame::OutOfMemory;
-use sja_script::Strike;
+use sja_steps::Strike;
 
 impl Bus {
     ghost use Rattle.std.specs.Prelude.{◌≡◌, ◌≤◌, ◌<◌, ◌↔◌, ◌++◌, ℕ, [], ◌∷◌, OnOk, OnErr};
-    ghost use Rattle.sja_script.specs.Striking.{Strikes};
+    ghost use Rattle.sja_steps.specs.Striking.{Strikes};
 
     /// One strike more. None of the bits that it hits has run, so what holds of those that were run holds by the new
     /// script too.

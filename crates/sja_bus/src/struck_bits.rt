@@ -9,7 +9,7 @@ use super::later_strikes::LaterStrikes;
 use super::struck_nodes::StruckNodes;
 use super::struck_table::StruckTable;
 use can_frame::OutOfMemory;
-use sja_script::{FaultScript, Strike};
+use sja_steps::{FaultScript, Strike};
 use std::alloc::Global;
 use std::marker::Model;
 
@@ -47,7 +47,7 @@ impl Model for StruckBits {
 
 impl StruckBits {
     ghost use Rattle.std.specs.Prelude.{◌≡◌, ◌+◌, ◌^◌, ◌<◌, ◌≤◌, ◌⊎◌, ◌↔◌, ◌++◌, ℕ, [], ◌∷◌, IfOk, OnOk, OnErr};
-    ghost use Rattle.sja_script.specs.Striking.{Strikes};
+    ghost use Rattle.sja_steps.specs.Striking.{Strikes};
     ghost use Rattle.sja_bus.specs.Inside.StrikesByBit.{IsAmong, IsUnstruck, IsStruckOrEnd};
 
     /// Whom this script strikes in each of so many bits.

@@ -1,13 +1,13 @@
 //! Whom strikes hit in each bit of a run, one byte a bit.
 
 ghost use Rattle.std.specs.Prelude.{◌≡◌, ◌+◌, ◌*◌, ◌<◌, ◌≤◌, ◌⊎◌, ◌↔◌, ℕ, true, length, slice_index_or};
-ghost use Rattle.sja_script.specs.Striking.{Hits};
+ghost use Rattle.sja_steps.specs.Striking.{Hits};
 ghost use Rattle.sja_bus.specs.declared.struck_nodes.StruckNodes.{StruckNodes as Nodes};
 ghost use Rattle.sja_bus.specs.Inside.StrikesByBit.{IsAmong, IsMarked};
 
 use super::struck_nodes::StruckNodes;
 use can_frame::OutOfMemory;
-use sja_script::{MOST_NODES, Strike};
+use sja_steps::{MOST_NODES, Strike};
 use std::alloc::Global;
 use std::marker::Model;
 

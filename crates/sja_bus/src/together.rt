@@ -3,16 +3,17 @@
 
 ghost use Rattle.std.specs.Prelude.{◌≡◌, ◌≢◌, ◌*◌, ◌<◌, ◌≤◌, Bool, true, length, slice_index_or, IfSome, IfOk};
 ghost use Rattle.std.specs.Prelude.{IfErr};
-ghost use Rattle.sja_bus.specs.declared.seat.Seat.{Seat as Seated};
+ghost use Rattle.sja_bus.specs.declared.bus_node.BusNode.{BusNode as BusNodeValue};
 ghost use Rattle.sja_bus.specs.Inside.Refusing.{AreFree};
-ghost use Rattle.sja_bus.specs.Inside.Rows.{EachSeat};
+ghost use Rattle.sja_bus.specs.Inside.Rows.{EachBusNode};
 ghost use Rattle.sja_bus.specs.Inside.Together.{AreQuietRows, IsLed, MayRunTogether, OthersGo, RunsTogether};
-ghost use Rattle.sja_bus.specs.Inside.Together.{SeatGoesOn};
+ghost use Rattle.sja_bus.specs.Inside.Together.{BusNodeGoesOn};
 
+use super::bus_node::BusNode;
 use super::idle_bits::{all_rest, are_at_rest};
-use super::seat::Seat;
 use super::stray::run_beside;
-use can_bits::{Level, Shift};
+use can_bits::Shift;
+use can_levels::Level;
 
 /// How many bits are run together at most: more than the stuffed part of a frame has.
 pub(crate) const MOST: usize = 160;
@@ -28,12 +29,12 @@ const EACH: u32 = 4;
 /// the stuffed part of a frame and all others go on with it, or every node is at rest and it isn't asked that some node
 /// works. `run` bits were run before these. Answers how many.
 #[inline(always)]
-pub(crate) fn run_together(seats: &mut [Seat], calm: u32, run: u32, to_rest: bool) -> u32
-    requires { MayRunTogether calm seats.old }
-    ensures { RunsTogether to_rest calm seats.old result seats.new }
+pub(crate) fn run_together(bus_nodes: &mut [BusNode], calm: u32, run: u32, to_rest: bool) -> u32
+    requires { MayRunTogether calm bus_nodes.old }
+    ensures { RunsTogether to_rest calm bus_nodes.old result bus_nodes.new }
 {
     if run % EACH == 1 {
-        run_at_once(seats, calm, to_rest)
+        run_at_once(bus_nodes, calm, to_rest)
     } else {
         0
     }
@@ -41,51 +42,51 @@ pub(crate) fn run_together(seats: &mut [Seat], calm: u32, run: u32, to_rest: boo
 
 /// The same at whatever bit.
 #[inline(never)]
-fn run_at_once(seats: &mut [Seat], calm: u32, to_rest: bool) -> u32
-    requires { MayRunTogether calm seats.old }
-    ensures { RunsTogether to_rest calm seats.old result seats.new }
+fn run_at_once(bus_nodes: &mut [BusNode], calm: u32, to_rest: bool) -> u32
+    requires { MayRunTogether calm bus_nodes.old }
+    ensures { RunsTogether to_rest calm bus_nodes.old result bus_nodes.new }
 {
-    match sender(seats) {
-        Some(lead) => run_sent(seats, calm, lead, to_rest),
-        None => run_idle(seats, calm, to_rest),
+    match sender(bus_nodes) {
+        Some(lead) => run_sent(bus_nodes, calm, lead, to_rest),
+        None => run_idle(bus_nodes, calm, to_rest),
     }
 }
 
 /// The same, where this node sends.
 #[inline(always)]
-fn run_sent(seats: &mut [Seat], calm: u32, lead: usize, to_rest: bool) -> u32
-    requires few { lead < length seats.old }
-    requires may { MayRunTogether calm seats.old }
-    ensures { RunsTogether to_rest calm seats.old result seats.new }
+fn run_sent(bus_nodes: &mut [BusNode], calm: u32, lead: usize, to_rest: bool) -> u32
+    requires few { lead < length bus_nodes.old }
+    requires may { MayRunTogether calm bus_nodes.old }
+    ensures { RunsTogether to_rest calm bus_nodes.old result bus_nodes.new }
 {
-    match others_go(seats, lead) {
+    match others_go(bus_nodes, lead) {
         Ok(most) => {
             let mut levels = [Level::Recessive; MOST];
             let most = at_once(calm, most);
-            run_led(seats, lead, &mut levels[..most]) as u32
+            run_led(bus_nodes, lead, &mut levels[..most]) as u32
         }
         Err(stray) => {
-            let reader = seats[stray].node.reader();
-            if !seats[stray].node.has_read_as(&reader) {
+            let reader = bus_nodes[stray].node.reader();
+            if !bus_nodes[stray].node.has_read_as(&reader) {
                 return 0;
             }
-            run_beside(seats, calm, lead, stray, to_rest)
+            run_beside(bus_nodes, calm, lead, stray, to_rest)
         }
     }
 }
 
 /// Runs so many bits of all nodes, where each is at rest and it isn't asked that some node works. Answers how many.
-fn run_idle(seats: &mut [Seat], calm: u32, to_rest: bool) -> u32
-    requires { MayRunTogether calm seats.old }
-    ensures { RunsTogether to_rest calm seats.old result seats.new }
+fn run_idle(bus_nodes: &mut [BusNode], calm: u32, to_rest: bool) -> u32
+    requires { MayRunTogether calm bus_nodes.old }
+    ensures { RunsTogether to_rest calm bus_nodes.old result bus_nodes.new }
 {
     if to_rest {
         return 0;
     }
-    if !are_at_rest(seats) {
+    if !are_at_rest(bus_nodes) {
         return 0;
     }
-    all_rest(seats, calm);
+    all_rest(bus_nodes, calm);
     calm
 }
 
@@ -101,11 +102,11 @@ pub(crate) fn at_once(calm: u32, most: u8) -> usize
 
 /// A node that sends a frame.
 #[inline(always)]
-fn sender(seats: &[Seat]) -> Option<usize>
-    ensures { IfSome result (λ lead. lead < length seats.now) }
+fn sender(bus_nodes: &[BusNode]) -> Option<usize>
+    ensures { IfSome result (λ lead. lead < length bus_nodes.now) }
 {
-    for k in 0..seats.len() {
-        if seats[k].node.is_sending() {
+    for k in 0..bus_nodes.len() {
+        if bus_nodes[k].node.is_sending() {
             return Some(k);
         }
     }
@@ -115,16 +116,16 @@ fn sender(seats: &[Seat]) -> Option<usize>
 /// For how many bits at most all other nodes go on with this one.
 ///
 /// Error: the first node that goes on with it for none.
-fn others_go(seats: &[Seat], lead: usize) -> Result<u8, usize>
-    requires { lead < length seats.now }
-    ensures go { IfOk result (λ most. (s : Seated) →
-        OthersGo seats.now lead most (slice_index_or seats.now lead s).node) }
-    ensures other { IfErr result (λ k. (k < length seats.now) × (k ≢ lead)) }
+fn others_go(bus_nodes: &[BusNode], lead: usize) -> Result<u8, usize>
+    requires { lead < length bus_nodes.now }
+    ensures go { IfOk result (λ most. (s : BusNodeValue) →
+        OthersGo bus_nodes.now lead most (slice_index_or bus_nodes.now lead s).node) }
+    ensures other { IfErr result (λ k. (k < length bus_nodes.now) × (k ≢ lead)) }
 {
     let mut most = u8::MAX;
-    for k in 0..seats.len() {
+    for k in 0..bus_nodes.len() {
         if k != lead {
-            most = most.min(seats[k].node.goes_with(&seats[lead].node));
+            most = most.min(bus_nodes[k].node.goes_with(&bus_nodes[lead].node));
             if most == 0 {
                 return Err(k);
             }
@@ -135,34 +136,34 @@ fn others_go(seats: &[Seat], lead: usize) -> Result<u8, usize>
 
 /// Runs bits of all nodes, as many as there is room for their levels or up to the end of the stuffed part. Answers how
 /// many.
-fn run_led(seats: &mut [Seat], lead: usize, levels: &mut [Level]) -> usize
-    requires led { IsLed seats.old lead (length levels.old) }
+fn run_led(bus_nodes: &mut [BusNode], lead: usize, levels: &mut [Level]) -> usize
+    requires led { IsLed bus_nodes.old lead (length levels.old) }
     requires most { length levels.old ≤ 160 }
-    requires may { MayRunTogether (length levels.old) seats.old }
+    requires may { MayRunTogether (length levels.old) bus_nodes.old }
     ensures few { result ≤ length levels.old }
-    ensures rows { (to_rest : Bool) → AreQuietRows to_rest seats.old result seats.new }
+    ensures rows { (to_rest : Bool) → AreQuietRows to_rest bus_nodes.old result bus_nodes.new }
 {
-    let count = seats[lead].node.send_inside(levels);
+    let count = bus_nodes[lead].node.send_inside(levels);
     if count > 0 {
-        let reader = seats[lead].node.reader();
-        all_go_on(seats, lead, &reader, &levels[..count]);
+        let reader = bus_nodes[lead].node.reader();
+        all_go_on(bus_nodes, lead, &reader, &levels[..count]);
     }
     count
 }
 
 /// The bits of all nodes in their journals, of which this one has sent these levels already. The others go on where
 /// this reader is.
-fn all_go_on(seats: &mut [Seat], lead: usize, reader: &Shift, levels: &[Level])
+fn all_go_on(bus_nodes: &mut [BusNode], lead: usize, reader: &Shift, levels: &[Level])
     requires most { length levels.now ≤ 160 }
-    requires free { AreFree (length levels.now) seats.old }
-    ensures { EachSeat (SeatGoesOn lead reader.now levels.now) seats.old seats.new }
+    requires free { AreFree (length levels.now) bus_nodes.old }
+    ensures { EachBusNode (BusNodeGoesOn lead reader.now levels.now) bus_nodes.old bus_nodes.new }
 {
-    for k in 0..seats.len() {
-        seats[k].go_on(k == lead, reader, levels);
+    for k in 0..bus_nodes.len() {
+        bus_nodes[k].go_on(k == lead, reader, levels);
     }
 }
 
-impl Seat {
+impl BusNode {
     ghost use Rattle.std.specs.Prelude.{◌≡◌, ◌-◌, ◌≤◌, true, false, length};
     ghost use Rattle.can_node.specs.Together.{following, is_sending, reading_as};
     ghost use Rattle.sja_bus.specs.Inside.Together.{HasSent, after_reading};

@@ -3,16 +3,16 @@
 use super::bits::{may_run_untaken, untaken_bits};
 use super::board::Board;
 use super::bus::Bus;
+use sja_journal::BusFault;
 use sja_link::BusEnd;
-use sja_wire::BusFault;
 
 impl Bus {
     ghost use Rattle.std.specs.Prelude.{◌≡◌, ◌≢◌, ◌+◌, ◌<◌, ◌≤◌, ℕ, false, None, Some, Ok, Err, length};
     ghost use Rattle.std.specs.Prelude.{OnOk, IfOk, IfErr};
-    ghost use Rattle.sja_script.specs.Striking.{Strikes};
-    ghost use Rattle.sja_wire.specs.declared.bus_fault.BusFault.{BusFault as Fault};
-    ghost use Rattle.sja_link.specs.Links.{AreEnds, HaveLinks};
-    ghost use Rattle.sja_wire.specs.Buses.{IsStill};
+    ghost use Rattle.sja_steps.specs.Striking.{Strikes};
+    ghost use Rattle.sja_journal.specs.declared.bus_fault.BusFault.{BusFault as Fault};
+    ghost use Rattle.sja_journal.specs.Links.{AreEnds, HaveLinks};
+    ghost use Rattle.sja_bus_rules.specs.Buses.{IsStill};
     ghost use Rattle.sja_bus.specs.Moment.{moment, Keeps};
     ghost use Rattle.sja_bus.specs.UntilTold.{RunsUntilTold, StopsUntilTold, EndsUntilTold, RunsNone};
     ghost use Rattle.sja_bus.specs.UntilTold.{HasFree, IsCalm, WorksUntold};
@@ -88,11 +88,11 @@ impl Bus {
         ensures stops { IfErr result (λ f. IsStopped E.BusEnd B.Board (WorksUntold to_rest (moment self.old
             links.old board.old)) most (moment self.old links.old board.old) (moment self.new links.new board.new) f) }
     {
-        if !may_run_untaken(self.seats.as_slice(), board) {
+        if !may_run_untaken(self.bus_nodes.as_slice(), board) {
             return Ok(0);
         }
-        let (seats, struck) = (self.seats.as_mut_slice(), &mut self.struck);
-        match untaken_bits(seats, links, board, struck, self.run, most, to_rest) {
+        let (bus_nodes, struck) = (self.bus_nodes.as_mut_slice(), &mut self.struck);
+        match untaken_bits(bus_nodes, links, board, struck, self.run, most, to_rest) {
             Ok(bits) => {
                 self.run += bits as u64;
                 self.left -= bits as u64;

@@ -2,38 +2,38 @@
 
 ghost use Rattle.std.specs.Prelude.{◌≡◌, ℕ, List, Some, [], ◌∷◌, ◌++◌, IfOk, OnErr};
 ghost use Rattle.can_frame.specs.declared.filter.Filter.{Filter as Filtering};
-ghost use Rattle.sja_link.specs.Verdicts.{entry_of, IsFair};
+ghost use Rattle.sja_journal.specs.Verdicts.{entry_of, IsFair};
 ghost use Rattle.sja_bus.specs.declared.activity.Activity.TheVariants.{Running};
-ghost use Rattle.sja_wire.specs.Telling.{is_overrun as overruns};
-ghost use Rattle.sja_bus.specs.Inside.Seats.{IsPassing};
-ghost use Rattle.sja_link.specs.declared.entry.Entry.{Entry};
-ghost use Rattle.sja_link.specs.Lists.{OthersStand, Carries};
-ghost use Rattle.sja_link.specs.Accounts.{with_entry};
-ghost use Rattle.sja_link.specs.Free.{IsFree};
+ghost use Rattle.sja_bus_rules.specs.Telling.{is_overrun as overruns};
+ghost use Rattle.sja_bus.specs.Inside.BusNodes.{IsPassing};
+ghost use Rattle.sja_journal.specs.declared.entry.Entry.{Entry};
+ghost use Rattle.sja_journal.specs.Lists.{OthersStand, Carries};
+ghost use Rattle.sja_journal.specs.Accounts.{with_entry};
+ghost use Rattle.sja_journal.specs.Free.{IsFree};
 ghost use Rattle.sja_link.specs.BusLedgers.{link_of, activation_of, free_in};
 ghost use Rattle.sja_bus.specs.Inside.Taking.{IsGivenBack};
 
 use super::activity::Activity;
+use super::bus_node::BusNode;
 use super::row_frame::RowFrame;
-use super::seat::Seat;
-use can_bits::Level;
 use can_frame::{Frame, Message};
-use sja_link::{BusEnd, BusLedger, Busy, Entry, Verdict};
-use sja_wire::BusFault;
+use can_levels::Level;
+use sja_journal::{BusFault, Entry, Verdict};
+use sja_link::{BusEnd, BusLedger, Busy};
 
 /// How often a put is tried.
 pub(crate) const TRIES: u32 = 1_000_000;
 
-impl Seat {
+impl BusNode {
     ghost use Rattle.std.specs.Prelude.{◌≡◌, suc, OnOk, IfOk};
     ghost use Rattle.std.specs.Prelude.{IfErr};
-    ghost use Rattle.sja_link.specs.Parts.{part};
-    ghost use Rattle.sja_link.specs.Verdicts.{IsLawful};
-    ghost use Rattle.sja_link.specs.OutOfOrder.{HasOff};
+    ghost use Rattle.sja_journal.specs.Parts.{part};
+    ghost use Rattle.sja_journal.specs.Verdicts.{IsLawful};
+    ghost use Rattle.sja_journal.specs.OutOfOrder.{HasOff};
     ghost use Rattle.sja_link.specs.BusLedgers.{link_of, free_in};
-    ghost use Rattle.sja_link.specs.Inside.Moving.{Moves};
+    ghost use Rattle.sja_link.specs.Moving.{Moves};
     ghost use Rattle.sja_bus.specs.Inside.Following.{Reads, open_in};
-    ghost use Rattle.sja_bus.specs.Inside.Seats.{IsSeat, IsJudged};
+    ghost use Rattle.sja_bus.specs.Inside.BusNodes.{IsBusNode, IsJudged};
     ghost use Rattle.sja_bus.specs.Inside.Taking.{BreaksBy, IsJudgedShort};
 
     /// Judges a message, and writes the bit and the verdict. Whether the message found no room.
@@ -50,7 +50,7 @@ impl Seat {
             (free_in self.old.ledger) }
         requires lawful { IsLawful self.old.journal.entries }
         requires on { HasOff (part self.old.journal.entries (suc self.old.ended)) → ⊥ }
-        requires seat { IsSeat self.old }
+        requires bus_node { IsBusNode self.old }
         ensures same { E.same end.old end.new }
         ensures room { self.new.journal.room ≡ self.old.journal.room }
         ensures kept { (self.new.node ≡ self.old.node) × (self.new.ended ≡ self.old.ended)

@@ -1,20 +1,20 @@
 //! The wire: its level in a bit, and what each node sees of it.
 
 ghost use Rattle.std.specs.Prelude.{◌≡◌, if◌then◌else◌, [], ◌∷◌};
-ghost use Rattle.can_bits.specs.Digits.{opposite};
-ghost use Rattle.sja_wire.specs.Wire.{wired};
+ghost use Rattle.can_levels.specs.Digits.{opposite};
+ghost use Rattle.can_levels.specs.BusLevel.{wired};
 ghost use Rattle.sja_bus.specs.Inside.Rows.{driven_by};
 
-use super::seat::Seat;
-use can_bits::Level;
+use super::bus_node::BusNode;
+use can_levels::Level;
 
 /// The level on the bus: dominant where any node drives dominant.
 #[inline(always)]
-pub(crate) fn level_of(seats: &[Seat]) -> Level
-    ensures { result ≡ wired (driven_by seats.now) }
+pub(crate) fn level_of(bus_nodes: &[BusNode]) -> Level
+    ensures { result ≡ wired (driven_by bus_nodes.now) }
 {
-    for k in 0..seats.len() {
-        if let Level::Dominant = seats[k].drives {
+    for k in 0..bus_nodes.len() {
+        if let Level::Dominant = bus_nodes[k].drives {
             return Level::Dominant;
         }
     }

@@ -5,21 +5,21 @@ use mir.Syntax.{Ty}
 use Rattle.std.specs.Box.Ownership.{box_owns}
 use Rattle.std.specs.Ptr.{if_non_null}
 use Rattle.std.specs.contracts.impls.GlobalAllocator.TheImpl.{ghosts}
-use Rattle.sja_calls.specs.contracts.held_session.HeldSession.{the_row}
-use Rattle.sja_calls.specs.declared.held_session.HeldSession.{HeldSession}
+use Rattle.sja_calls.specs.contracts.handle.Handle.{the_row}
+use Rattle.sja_calls.specs.declared.handle.Handle.{Handle}
 use Rattle.sja_calls.specs.declared.state.State.TheVariants.{Lost}
 use Rattle.std.specs.declared.alloc.Global.{Global}
 
 -- the right to free a block that the session's allocator gave
-abbrev pub token : HeldSession → Ty → Ptr → Fml
+abbrev pub token : Handle → Ty → Ptr → Fml
 token held = ghosts.dealloc_token held.alloc
 
 -- a session on the heap of the C library, and the right to free it; nothing at null
-abbrev pub is_handle : Ptr → HeldSession → Fml
+abbrev pub is_handle : Ptr → Handle → Fml
 is_handle at held = if_non_null at (box_owns (token held) the_row at held)
 
 -- a place for a session in which there is none
-abbrev pub empty : Global → HeldSession
+abbrev pub empty : Global → Handle
 empty alloc = record { alloc = alloc; state = Lost }
 
 -- one thing where a handle is null, and another where it isn't

@@ -5,10 +5,10 @@ ghost use Rattle.std.specs.Prelude.{◌≡◌};
 ghost use Rattle.sja_c.specs.Answers.{answer, no_handle_status};
 ghost use Rattle.sja_c.specs.Exports.{AnswersRead, AnswersWrite};
 ghost use Rattle.sja_c.specs.Handles.{is_handle, AtHandle};
-ghost use Rattle.sja_calls.specs.declared.held_session.HeldSession.{HeldSession as HeldOf};
+ghost use Rattle.sja_calls.specs.declared.handle.Handle.{Handle as HeldOf};
 
 use super::answer::{SjaAnswer, done, no_handle, refused};
-use sja_calls::HeldSession;
+use sja_calls::Handle;
 
 /// Reads an address of a node: `sja_read` of `c/sja.h`.
 #[unsafe(no_mangle)]
@@ -21,11 +21,11 @@ pub unsafe extern "C" fn sja_read(at: *mut u8, node: u32, address: u32) -> SjaAn
     if at.is_null() {
         return no_handle();
     }
-    read_of(&mut *(at as *mut HeldSession), node, address)
+    read_of(&mut *(at as *mut Handle), node, address)
 }
 
 /// Reads an address of a node.
-fn read_of(held: &mut HeldSession, node: u32, address: u32) -> SjaAnswer
+fn read_of(held: &mut Handle, node: u32, address: u32) -> SjaAnswer
     ensures { AnswersRead held.old held.new node address result }
 {
     match held.read(node, address) {
@@ -45,11 +45,11 @@ pub unsafe extern "C" fn sja_write(at: *mut u8, node: u32, address: u32, value: 
     if at.is_null() {
         return no_handle();
     }
-    write_of(&mut *(at as *mut HeldSession), node, address, value)
+    write_of(&mut *(at as *mut Handle), node, address, value)
 }
 
 /// Writes a byte to an address of a node.
-fn write_of(held: &mut HeldSession, node: u32, address: u32, value: u32) -> SjaAnswer
+fn write_of(held: &mut Handle, node: u32, address: u32, value: u32) -> SjaAnswer
     ensures { AnswersWrite held.old held.new node address value result }
 {
     match held.write(node, address, value) {

@@ -5,10 +5,10 @@ ghost use Rattle.std.specs.Prelude.{◌≡◌};
 ghost use Rattle.sja_c.specs.Answers.{answer, no_handle_status};
 ghost use Rattle.sja_c.specs.Exports.{AnswersBits, AnswersIrq, AnswersLines, AnswersStrike, AnswersNow, whole_bit};
 ghost use Rattle.sja_c.specs.Handles.{is_handle, AtHandle};
-ghost use Rattle.sja_calls.specs.declared.held_session.HeldSession.{HeldSession as HeldOf};
+ghost use Rattle.sja_calls.specs.declared.handle.Handle.{Handle as HeldOf};
 
 use super::answer::{SjaAnswer, done, done_bits, no_handle, refused};
-use sja_calls::HeldSession;
+use sja_calls::Handle;
 
 /// Runs bits: `sja_bits` of `c/sja.h`.
 #[unsafe(no_mangle)]
@@ -21,11 +21,11 @@ pub unsafe extern "C" fn sja_bits(at: *mut u8, count: u32, watch: u32) -> SjaAns
     if at.is_null() {
         return no_handle();
     }
-    bits_of(&mut *(at as *mut HeldSession), count, watch)
+    bits_of(&mut *(at as *mut Handle), count, watch)
 }
 
 /// Runs bits.
-fn bits_of(held: &mut HeldSession, count: u32, watch: u32) -> SjaAnswer
+fn bits_of(held: &mut Handle, count: u32, watch: u32) -> SjaAnswer
     ensures { AnswersBits held.old held.new count watch result }
 {
     match held.bits(count, watch) {
@@ -45,11 +45,11 @@ pub unsafe extern "C" fn sja_irq(at: *mut u8, node: u32) -> SjaAnswer
     if at.is_null() {
         return no_handle();
     }
-    irq_of(&mut *(at as *mut HeldSession), node)
+    irq_of(&mut *(at as *mut Handle), node)
 }
 
 /// Looks at an interrupt line.
-fn irq_of(held: &mut HeldSession, node: u32) -> SjaAnswer
+fn irq_of(held: &mut Handle, node: u32) -> SjaAnswer
     ensures { AnswersIrq held.old held.new node result }
 {
     match held.irq(node) {
@@ -70,11 +70,11 @@ pub unsafe extern "C" fn sja_lines(at: *mut u8) -> SjaAnswer
     if at.is_null() {
         return no_handle();
     }
-    lines_of(&mut *(at as *mut HeldSession))
+    lines_of(&mut *(at as *mut Handle))
 }
 
 /// Looks at all interrupt lines.
-fn lines_of(held: &mut HeldSession) -> SjaAnswer
+fn lines_of(held: &mut Handle) -> SjaAnswer
     ensures { AnswersLines held.old held.new result }
 {
     match held.lines() {
@@ -95,11 +95,11 @@ pub unsafe extern "C" fn sja_strike_at(at: *mut u8, node: u32, low: u32, high: u
     if at.is_null() {
         return no_handle();
     }
-    strike_of(&mut *(at as *mut HeldSession), node, low, high)
+    strike_of(&mut *(at as *mut Handle), node, low, high)
 }
 
 /// Has a node see the other level in a bit.
-fn strike_of(held: &mut HeldSession, node: u32, low: u32, high: u32) -> SjaAnswer
+fn strike_of(held: &mut Handle, node: u32, low: u32, high: u32) -> SjaAnswer
     ensures { AnswersStrike held.old held.new node (whole_bit low high) result }
 {
     match held.strike(node, u64::from(high) * 4_294_967_296 + u64::from(low)) {
@@ -119,11 +119,11 @@ pub unsafe extern "C" fn sja_now(at: *mut u8) -> SjaAnswer
     if at.is_null() {
         return no_handle();
     }
-    now_of(&mut *(at as *mut HeldSession))
+    now_of(&mut *(at as *mut Handle))
 }
 
 /// Tells how many bits were run.
-fn now_of(held: &mut HeldSession) -> SjaAnswer
+fn now_of(held: &mut Handle) -> SjaAnswer
     ensures { AnswersNow held.old held.new result }
 {
     match held.now() {

@@ -5,11 +5,11 @@ ghost use Rattle.std.specs.Prelude.{◌≡◌};
 ghost use Rattle.sja_c.specs.Answers.{answer, no_handle_status};
 ghost use Rattle.sja_c.specs.Exports.{AnswersMake, AnswersBegin, AnswersLetGo};
 ghost use Rattle.sja_c.specs.Handles.{is_handle, empty, AtHandle};
-ghost use Rattle.sja_calls.specs.declared.held_session.HeldSession.{HeldSession as HeldOf};
+ghost use Rattle.sja_calls.specs.declared.handle.Handle.{Handle as HeldOf};
 
 use super::answer::{SjaAnswer, done, no_handle, refused};
 use super::new_handle::{NewHandle, make};
-use sja_calls::HeldSession;
+use sja_calls::Handle;
 use std::alloc::Global;
 
 /// Makes the place of a session, in which there is none: `sja_make` of `c/sja.h`.
@@ -33,14 +33,14 @@ pub unsafe extern "C" fn sja_begin(at: *mut u8, version: u32, bits: u32, nodes: 
     if at.is_null() {
         return no_handle();
     }
-    begin_of(&mut *(at as *mut HeldSession), version, bits, nodes)
+    begin_of(&mut *(at as *mut Handle), version, bits, nodes)
 }
 
 /// Begins a session to which nothing happened.
-fn begin_of(held: &mut HeldSession, version: u32, bits: u32, nodes: u32) -> SjaAnswer
+fn begin_of(held: &mut Handle, version: u32, bits: u32, nodes: u32) -> SjaAnswer
     ensures { AnswersBegin held.old held.new version bits nodes result }
 {
-    match HeldSession::new(held.alloc, version, bits, nodes) {
+    match Handle::new(held.alloc, version, bits, nodes) {
         Ok(begun) => {
             *held = begun;
             done(0)
@@ -61,11 +61,11 @@ pub unsafe extern "C" fn sja_let_go(at: *mut u8) -> SjaAnswer
     if at.is_null() {
         return no_handle();
     }
-    let_go(&mut *(at as *mut HeldSession))
+    let_go(&mut *(at as *mut Handle))
 }
 
 /// Lets go of all that a session has in memory.
-fn let_go(held: &mut HeldSession) -> SjaAnswer
+fn let_go(held: &mut Handle) -> SjaAnswer
     ensures { AnswersLetGo held.new result }
 {
     held.let_go();

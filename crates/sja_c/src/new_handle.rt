@@ -4,11 +4,11 @@ ghost use denote.RawPtr.{null_ptr};
 ghost use Rattle.std.specs.Prelude.{◌≡◌, ◌≢◌};
 ghost use Rattle.sja_c.specs.Exports.{AnswersMake};
 ghost use Rattle.sja_c.specs.Handles.{is_handle, empty};
-ghost use Rattle.sja_calls.specs.declared.held_session.HeldSession.{HeldSession as HeldOf};
+ghost use Rattle.sja_calls.specs.declared.handle.Handle.{Handle as HeldOf};
 
 use super::answer::{SjaAnswer, done, refused};
 use super::loose::Loose;
-use sja_calls::{CallFault, HeldSession, State};
+use sja_calls::{CallFault, Handle, State};
 use std::alloc::Global;
 use std::marker::Model;
 use std::ptr::null_mut;
@@ -29,7 +29,7 @@ impl Model for NewHandle {
 
 impl NewHandle {
     /// The handle of what lies on the heap, with this answer.
-    fn of(loose: Loose<HeldSession, Global>, answer: SjaAnswer) -> NewHandle
+    fn of(loose: Loose<Handle, Global>, answer: SjaAnswer) -> NewHandle
         ensures { (result.at ≢ null_ptr) × (result.held ≡ loose.value) × (result.answer ≡ answer) }
     {
         let Loose { at, alloc: _ } = loose;
@@ -55,7 +55,7 @@ pub(crate) fn make(alloc: Global) -> NewHandle
     ensures held { result.held ≡ empty alloc }
     ensures answer { AnswersMake result.at result.answer }
 {
-    let empty = HeldSession {
+    let empty = Handle {
         alloc,
         state: State::Lost,
     };

@@ -5,10 +5,10 @@ ghost use Rattle.std.specs.Prelude.{◌≡◌};
 ghost use Rattle.sja_c.specs.Answers.{answer, no_handle_status};
 ghost use Rattle.sja_c.specs.Exports.{AnswersPlace, AnswersTo};
 ghost use Rattle.sja_c.specs.Handles.{is_handle, AtHandle};
-ghost use Rattle.sja_calls.specs.declared.held_session.HeldSession.{HeldSession as HeldOf};
+ghost use Rattle.sja_calls.specs.declared.handle.Handle.{Handle as HeldOf};
 
 use super::answer::{SjaAnswer, done, no_handle, refused};
-use sja_calls::HeldSession;
+use sja_calls::Handle;
 
 /// Tells the place of a node: `sja_place` of `c/sja.h`.
 #[unsafe(no_mangle)]
@@ -21,11 +21,11 @@ pub unsafe extern "C" fn sja_place(at: *mut u8, node: u32) -> SjaAnswer
     if at.is_null() {
         return no_handle();
     }
-    place_of(&mut *(at as *mut HeldSession), node)
+    place_of(&mut *(at as *mut Handle), node)
 }
 
 /// Tells the place of a node.
-fn place_of(held: &mut HeldSession, node: u32) -> SjaAnswer
+fn place_of(held: &mut Handle, node: u32) -> SjaAnswer
     ensures { AnswersPlace held.old held.new node result }
 {
     match held.place(node) {
@@ -45,11 +45,11 @@ pub unsafe extern "C" fn sja_to(at: *mut u8, node: u32, place: u32, limit: u32) 
     if at.is_null() {
         return no_handle();
     }
-    to_of(&mut *(at as *mut HeldSession), node, place, limit)
+    to_of(&mut *(at as *mut Handle), node, place, limit)
 }
 
 /// Runs bits up to a place of a node.
-fn to_of(held: &mut HeldSession, node: u32, place: u32, limit: u32) -> SjaAnswer
+fn to_of(held: &mut Handle, node: u32, place: u32, limit: u32) -> SjaAnswer
     ensures { AnswersTo held.old held.new node place limit result }
 {
     match held.to(node, place, limit) {

@@ -5,10 +5,10 @@ ghost use Rattle.std.specs.Prelude.{◌≡◌};
 ghost use Rattle.sja_c.specs.Answers.{answer, no_handle_status};
 ghost use Rattle.sja_c.specs.Exports.{AnswersReport, AnswersPlan, AnswersRun};
 ghost use Rattle.sja_c.specs.Handles.{is_handle, AtHandle};
-ghost use Rattle.sja_calls.specs.declared.held_session.HeldSession.{HeldSession as HeldOf};
+ghost use Rattle.sja_calls.specs.declared.handle.Handle.{Handle as HeldOf};
 
 use super::answer::{SjaAnswer, done, no_handle, refused};
-use sja_calls::{HeldSession, run_plan};
+use sja_calls::{Handle, run_plan};
 use std::alloc::Global;
 
 /// Ends a session and puts its report into a text: `sja_put_report` of `c/sja.h`.
@@ -23,11 +23,11 @@ pub unsafe extern "C" fn sja_put_report(at: *mut u8, text: &mut [u8]) -> SjaAnsw
     if at.is_null() {
         return no_text(text);
     }
-    report_of(&mut *(at as *mut HeldSession), text)
+    report_of(&mut *(at as *mut Handle), text)
 }
 
 /// Ends a session and puts its report into a text.
-fn report_of(held: &mut HeldSession, text: &mut [u8]) -> SjaAnswer
+fn report_of(held: &mut Handle, text: &mut [u8]) -> SjaAnswer
     ensures { AnswersReport held.old held.new text.old text.new result }
 {
     match held.report(text) {
@@ -48,11 +48,11 @@ pub unsafe extern "C" fn sja_put_plan(at: *mut u8, text: &mut [u8]) -> SjaAnswer
     if at.is_null() {
         return no_text(text);
     }
-    plan_of(&mut *(at as *mut HeldSession), text)
+    plan_of(&mut *(at as *mut Handle), text)
 }
 
 /// Puts the plan that a session wrote into a text.
-fn plan_of(held: &mut HeldSession, text: &mut [u8]) -> SjaAnswer
+fn plan_of(held: &mut Handle, text: &mut [u8]) -> SjaAnswer
     ensures { AnswersPlan held.old held.new text.old text.new result }
 {
     match held.plan(text) {

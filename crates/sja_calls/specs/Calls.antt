@@ -7,7 +7,7 @@ use Rattle.sja_calls.specs.declared.call_fault.CallFault.TheVariants.{Ended, NoA
 use Rattle.sja_calls.specs.declared.call_fault.CallFault.TheVariants.{StepsUsed, TurnsUsed, StrikesUsed, Memory}
 use Rattle.sja_calls.specs.declared.state.State.{State}
 use Rattle.sja_calls.specs.declared.state.State.TheVariants.{Going, Ended as HasLog, Lost}
-use Rattle.sja_driver.specs.Accesses.{Access}
+use Rattle.sja_driver.specs.StepRuns.{StepRun}
 use Rattle.sja_regs.specs.Bits.{is_set}
 use Rattle.sja_serial.specs.Accounts.{AreAccountsNow}
 use Rattle.sja_session.specs.ByAddress.{Reads, Writes, MayWrite, IsWriteFault as IsWriteFaultOf}
@@ -47,7 +47,7 @@ IsRefusal was why fault = IfGoing was (λ r. why r fault) (fault ≡ Ended)
 abbrev pub ReadsOf : State → State → ℕ → ℕ → ℕ → Type 0
 ReadsOf was now node address value =
     GoesOn was now (λ r s. (address ≤ 255) × MayStep r node
-    × ((accesses : List (List Access)) → IsAt r accesses → Reads r s node address value accesses))
+    × ((step_runs : List (List StepRun)) → IsAt r step_runs → Reads r s node address value step_runs))
 
 -- why it wasn't: the first of these that holds
 abbrev pub IsReadFault : ℕ → ℕ → SessionValue → CallFault → Type 0
@@ -61,14 +61,14 @@ IsReadFault node address r fault = ⊥
 abbrev pub WritesOf : State → State → ℕ → ℕ → ℕ → Type 0
 WritesOf was now node address value =
     GoesOn was now (λ r s. (address ≤ 255) × (value ≤ 255)
-    × ((accesses : List (List Access)) → IsAt r accesses →
-    MayWrite r node address value accesses × Writes r s node address value accesses))
+    × ((step_runs : List (List StepRun)) → IsAt r step_runs →
+    MayWrite r node address value step_runs × Writes r s node address value step_runs))
 
 -- why it wasn't: the first of these that holds
 abbrev pub IsFaultOfWrite : ℕ → ℕ → ℕ → SessionValue → StepFault → Type 0
 IsFaultOfWrite node address value r fault =
     (address ≤ 255) × (value ≤ 255)
-    × ((accesses : List (List Access)) → IsAt r accesses → IsWriteFaultOf r node address value accesses fault)
+    × ((step_runs : List (List StepRun)) → IsAt r step_runs → IsWriteFaultOf r node address value step_runs fault)
 
 abbrev pub IsWriteFault : ℕ → ℕ → ℕ → SessionValue → CallFault → Type 0
 IsWriteFault node address value r NoAddress = 255 < address
@@ -89,14 +89,14 @@ watches mask = not (mask % 256 == 0)
 
 -- so many bits were run, of those that were asked for: where a node is watched, up to the first in which the line of
 -- one rose, and else all of them or as many as were left
-abbrev pub RunsBy : Bool → SessionValue → SessionValue → ℕ → ℕ → ℕ → Option ℕ → List (List Access) → Type 0
-RunsBy true r s count mask run rose accesses = Watches r s count (watched_in mask) run rose accesses
-RunsBy false r s count mask run rose accesses = RunsBits r s count run accesses × (rose ≡ None)
+abbrev pub RunsBy : Bool → SessionValue → SessionValue → ℕ → ℕ → ℕ → Option ℕ → List (List StepRun) → Type 0
+RunsBy true r s count mask run rose step_runs = Watches r s count (watched_in mask) run rose step_runs
+RunsBy false r s count mask run rose step_runs = RunsBits r s count run step_runs × (rose ≡ None)
 
 abbrev pub RunsOf : State → State → ℕ → ℕ → ℕ → Option ℕ → Type 0
 RunsOf was now count mask run rose =
-    GoesOn was now (λ r s. MayRun r count × ((accesses : List (List Access)) → IsAt r accesses →
-    RunsBy (watches mask) r s count mask run rose accesses))
+    GoesOn was now (λ r s. MayRun r count × ((step_runs : List (List StepRun)) → IsAt r step_runs →
+    RunsBy (watches mask) r s count mask run rose step_runs))
 
 -- why they weren't
 abbrev pub IsRunFault : ℕ → SessionValue → CallFault → Type 0
@@ -109,7 +109,7 @@ IsRunFault count r fault = ⊥
 abbrev pub LooksOf : State → State → ℕ → Bool → Type 0
 LooksOf was now node line =
     GoesOn was now (λ r s. (node < length r.plan.nodes)
-    × ((accesses : List (List Access)) → IsAt r accesses → Looks r s node line accesses))
+    × ((step_runs : List (List StepRun)) → IsAt r step_runs → Looks r s node line step_runs))
 
 -- why it wasn't
 abbrev pub IsLookFault : ℕ → SessionValue → CallFault → Type 0
@@ -119,8 +119,8 @@ IsLookFault node r fault = ⊥
 -- the lines of all nodes were looked at, and nothing happened
 abbrev pub LinesOf : State → State → ℕ → Type 0
 LinesOf was now mask =
-    GoesOn was now (λ r s. (accesses : List (List Access)) → IsAt r accesses →
-    AreLines r accesses mask × IsStill r s accesses)
+    GoesOn was now (λ r s. (step_runs : List (List StepRun)) → IsAt r step_runs →
+    AreLines r step_runs mask × IsStill r s step_runs)
 
 -- a session that goes on always tells them
 abbrev pub IsLinesFault : SessionValue → CallFault → Type 0
@@ -130,7 +130,7 @@ IsLinesFault r fault = ⊥
 abbrev pub StrikesOf : State → State → ℕ → ℕ → Type 0
 StrikesOf was now node bit =
     GoesOn was now (λ r s. MayStrike r node bit
-    × ((accesses : List (List Access)) → IsAt r accesses → IsStruck r s node bit accesses))
+    × ((step_runs : List (List StepRun)) → IsAt r step_runs → IsStruck r s node bit step_runs))
 
 -- why it wasn't: the first of these that holds
 abbrev pub IsStrikeFault : ℕ → ℕ → SessionValue → CallFault → Type 0

@@ -1,6 +1,6 @@
 pub mod Beginnings
 pub mod Calls
 pub mod PlaceNumbers
-pub mod Placing
+pub mod CallPlaces
 pub mod Texts
 pub mod Inside

@@ -4,21 +4,22 @@ use Rattle.sja_calls.specs.declared.call_fault.CallFault.{CallFault}
 use Rattle.sja_calls.specs.declared.call_fault.CallFault.TheVariants.{NoPlan, NoDocument, NoRoom, Endless, Memory}
 use Rattle.sja_calls.specs.declared.state.State.{State}
 use Rattle.sja_calls.specs.declared.state.State.TheVariants.{Going, Ended, Lost}
-use Rattle.sja_driver.specs.Accesses.{Access}
-use Rattle.sja_log.specs.Headline.{AreAccounts}
+use Rattle.sja_driver.specs.StepRuns.{StepRun}
+use Rattle.sja_promises.specs.Headline.{AreAccounts}
 use Rattle.sja_log.specs.Log.{RunValue}
-use Rattle.sja_log.specs.Runs.{IsSerialRun}
+use Rattle.sja_promises.specs.Runs.{IsSerialRun}
 use Rattle.sja_log.specs.declared.end.End.TheVariants.{Turns as TurnsDone}
-use Rattle.sja_places.specs.PlanRead.{IsRunPlan, IsReadFault}
-use Rattle.sja_places.specs.declared.place_fault.PlaceFault.TheVariants.{Memory as NoPlaceMemory, Run as PlaceRun}
-use Rattle.sja_places.specs.declared.read_fault.ReadFault.{ReadFault}
-use Rattle.sja_places.specs.declared.read_fault.ReadFault.TheVariants.{Plan as PlanRead, Place as Placed}
+use Rattle.sja_placed_strikes.specs.PlanRead.{IsRunPlan, IsReadFault}
+use Rattle.sja_placed_strikes.specs.declared.place_fault.PlaceFault.TheVariants.{Memory as NoPlaceMemory}
+use Rattle.sja_placed_strikes.specs.declared.place_fault.PlaceFault.TheVariants.{Run as PlaceRun}
+use Rattle.sja_placed_strikes.specs.declared.read_fault.ReadFault.{ReadFault}
+use Rattle.sja_placed_strikes.specs.declared.read_fault.ReadFault.TheVariants.{Plan as PlanRead, Place as Placed}
 use Rattle.sja_plan.specs.Plan.{PlanValue}
-use Rattle.sja_plan.specs.declared.plan_fault.PlanFault.{PlanFault}
-use Rattle.sja_plan.specs.declared.plan_fault.PlanFault.TheVariants.{Memory as NoPlanMemory}
+use Rattle.sja_plan_reading.specs.declared.plan_fault.PlanFault.{PlanFault}
+use Rattle.sja_plan_reading.specs.declared.plan_fault.PlanFault.TheVariants.{Memory as NoPlanMemory}
 use Rattle.sja_plan_text.specs.HasTexts.{HasTexts}
 use Rattle.sja_plan_text.specs.Written.{IsPlanText, IsTooLong}
-use Rattle.sja_report.specs.ReportLines.{report_text}
+use Rattle.text_report.specs.ReportLines.{report_text}
 use Rattle.sja_serial.specs.Ending.{IsLogOf}
 use Rattle.sja_session.specs.Sessions.{SessionValue, HasEnd, IsAt, IsEndless, written}
 
@@ -38,7 +39,7 @@ LacksRoom text room size = (length room ≤ length text) × (size ≡ length tex
 -- its plan is what it wrote, and its log is that of a run of this plan, and of what its drivers did
 pub record EndsAs (s : SessionValue) (plan : PlanValue) (log : RunValue) : Type 0 where
   pub wrote : plan ≡ written s
-  pub own : (accesses : List (List Access)) → IsAt s accesses → IsLogOf plan s.run accesses TurnsDone log
+  pub own : (step_runs : List (List StepRun)) → IsAt s step_runs → IsLogOf plan s.run step_runs TurnsDone log
   pub run : IsSerialRun plan log
   pub accounts : AreAccounts log
 

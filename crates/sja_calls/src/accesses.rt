@@ -2,18 +2,18 @@
 
 ghost use Rattle.std.specs.Prelude.{◌≡◌, ◌≤◌, IfOk, IfErr, OnOk, OnErr, List};
 ghost use Rattle.sja_calls.specs.Calls.{IsReadFault, IsWriteFault};
-ghost use Rattle.sja_driver.specs.Accesses.{Access};
+ghost use Rattle.sja_driver.specs.StepRuns.{StepRun};
 ghost use Rattle.sja_session.specs.ByAddress.{MayWrite, Reads, Writes};
 ghost use Rattle.sja_session.specs.Sessions.{IsAt};
 ghost use Rattle.sja_session.specs.Stepping.{MayStep};
 
 use super::call_fault::CallFault;
-use super::held_session::HeldSession;
+use super::handle::Handle;
 use super::numbers::node_in;
 use super::state::State;
 use sja_session::{Session, StepFault};
 
-impl HeldSession {
+impl Handle {
     ghost use Rattle.std.specs.Prelude.{◌≡◌, IfOk, IfErr, OnOk, OnErr};
     ghost use Rattle.sja_calls.specs.Calls.{IsRefusal, ReadsOf, IsReadFault, WritesOf, IsWriteFault};
 
@@ -52,8 +52,8 @@ impl HeldSession {
 
 /// Reads an address of a node.
 fn read_by(session: &mut Session, node: u32, address: u32) -> Result<u8, CallFault>
-    ensures reads { IfOk result (λ value. (accesses : List (List Access)) → IsAt session.old accesses →
-        Reads session.old session.new node address value accesses) }
+    ensures reads { IfOk result (λ value. (step_runs : List (List StepRun)) → IsAt session.old step_runs →
+        Reads session.old session.new node address value step_runs) }
     ensures may { OnOk result ((address ≤ 255) × MayStep session.old node) }
     ensures err { IfErr result (IsReadFault node address session.old) }
     ensures kept { OnErr result (session.new ≡ session.old) }
@@ -74,9 +74,9 @@ fn read_by(session: &mut Session, node: u32, address: u32) -> Result<u8, CallFau
 
 /// Writes a byte to an address of a node.
 fn write_by(session: &mut Session, node: u32, address: u32, value: u32) -> Result<(), CallFault>
-    ensures writes { OnOk result ((accesses : List (List Access)) → IsAt session.old accesses →
-        MayWrite session.old node address value accesses
-        × Writes session.old session.new node address value accesses) }
+    ensures writes { OnOk result ((step_runs : List (List StepRun)) → IsAt session.old step_runs →
+        MayWrite session.old node address value step_runs
+        × Writes session.old session.new node address value step_runs) }
     ensures may { OnOk result ((address ≤ 255) × (value ≤ 255)) }
     ensures err { IfErr result (IsWriteFault node address value session.old) }
     ensures kept { OnErr result (session.new ≡ session.old) }

@@ -2,19 +2,19 @@
 
 ghost use Rattle.std.specs.Prelude.{◌≡◌, ◌<◌, IfOk, IfErr, OnOk, OnErr, List, length};
 ghost use Rattle.sja_calls.specs.Calls.{watches, RunsBy, IsRunFault, IsLookFault, IsStrikeFault};
-ghost use Rattle.sja_driver.specs.Accesses.{Access};
+ghost use Rattle.sja_driver.specs.StepRuns.{StepRun};
 ghost use Rattle.sja_session.specs.Lines.{Looks};
 ghost use Rattle.sja_session.specs.Running.{MayRun};
 ghost use Rattle.sja_session.specs.Sessions.{IsAt};
 ghost use Rattle.sja_session.specs.Striking.{IsStruck, MayStrike};
 
 use super::call_fault::CallFault;
-use super::held_session::HeldSession;
+use super::handle::Handle;
 use super::numbers::{node_in, watched_by};
 use super::state::State;
 use sja_session::{Session, StrikeFault, WatchOutcome};
 
-impl HeldSession {
+impl Handle {
     ghost use Rattle.std.specs.Prelude.{◌≡◌, IfOk, IfErr, OnOk, OnErr};
     ghost use Rattle.sja_calls.specs.Calls.{IsRefusal, RunsOf, IsRunFault, LooksOf, IsLookFault};
     ghost use Rattle.sja_calls.specs.Calls.{LinesOf, IsLinesFault, StrikesOf, IsStrikeFault, IsNowOf, IsNowFault};
@@ -101,8 +101,8 @@ impl HeldSession {
 
 /// Runs bits, up to the rise of a watched line where one is watched.
 fn bits_by(session: &mut Session, count: u32, watch: u32) -> Result<WatchOutcome, CallFault>
-    ensures runs { IfOk result (λ w. (accesses : List (List Access)) → IsAt session.old accesses →
-        RunsBy (watches watch) session.old session.new count watch w.bits w.rose accesses) }
+    ensures runs { IfOk result (λ w. (step_runs : List (List StepRun)) → IsAt session.old step_runs →
+        RunsBy (watches watch) session.old session.new count watch w.bits w.rose step_runs) }
     ensures may { OnOk result (MayRun session.old count) }
     ensures err { IfErr result (IsRunFault count session.old) }
     ensures kept { OnErr result (session.new ≡ session.old) }
@@ -121,8 +121,8 @@ fn bits_by(session: &mut Session, count: u32, watch: u32) -> Result<WatchOutcome
 
 /// Looks at the interrupt line of a node.
 fn irq_by(session: &mut Session, node: u32) -> Result<bool, CallFault>
-    ensures looks { IfOk result (λ line. (accesses : List (List Access)) → IsAt session.old accesses →
-        Looks session.old session.new node line accesses) }
+    ensures looks { IfOk result (λ line. (step_runs : List (List StepRun)) → IsAt session.old step_runs →
+        Looks session.old session.new node line step_runs) }
     ensures may { OnOk result (node < length session.old.plan.nodes) }
     ensures err { IfErr result (IsLookFault node session.old) }
     ensures kept { OnErr result (session.new ≡ session.old) }
@@ -138,8 +138,8 @@ fn irq_by(session: &mut Session, node: u32) -> Result<bool, CallFault>
 
 /// Has a node see the other level in a bit.
 fn strike_by(session: &mut Session, node: u32, bit: u64) -> Result<(), CallFault>
-    ensures struck { OnOk result ((accesses : List (List Access)) → IsAt session.old accesses →
-        IsStruck session.old session.new node bit accesses) }
+    ensures struck { OnOk result ((step_runs : List (List StepRun)) → IsAt session.old step_runs →
+        IsStruck session.old session.new node bit step_runs) }
     ensures may { OnOk result (MayStrike session.old node bit) }
     ensures err { IfErr result (IsStrikeFault node bit session.old) }
     ensures kept { OnErr result (session.new ≡ session.old) }

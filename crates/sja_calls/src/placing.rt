@@ -1,19 +1,19 @@
 //! The places of the nodes of a session of C, and bits up to one.
 
 ghost use Rattle.std.specs.Prelude.{◌≡◌, ◌<◌, IfOk, IfErr, OnOk, OnErr, List, length};
-ghost use Rattle.sja_calls.specs.Placing.{ComesTo, IsAtPlace, IsPlaceFault, IsToFault};
+ghost use Rattle.sja_calls.specs.CallPlaces.{ComesTo, IsAtPlace, IsPlaceFault, IsToFault};
 
 use super::call_fault::CallFault;
-use super::held_session::HeldSession;
+use super::handle::Handle;
 use super::numbers::node_in;
 use super::place_numbers::{number_if, place_of};
 use super::state::State;
 use sja_session::{PlaceRefusal, Session};
 
-impl HeldSession {
+impl Handle {
     ghost use Rattle.std.specs.Prelude.{◌≡◌, IfOk, IfErr, OnErr};
     ghost use Rattle.sja_calls.specs.Calls.{IsRefusal};
-    ghost use Rattle.sja_calls.specs.Placing.{ComesToOf, IsAtPlaceOf, IsPlaceFault, IsToFault};
+    ghost use Rattle.sja_calls.specs.CallPlaces.{ComesToOf, IsAtPlaceOf, IsPlaceFault, IsToFault};
 
     /// At which place of a frame the next bit of a node, counted from 0, is, as a number of `c/sja.h`: 0 where it is at
     /// none.

@@ -5,11 +5,11 @@ ghost use Rattle.sja_calls.specs.Texts.{PutsRun, IsNoRun, no_plan};
 
 use super::call_fault::CallFault;
 use super::put_text::put_text;
-use sja_places::{PlaceFault, ReadFault, plan_of};
-use sja_plan::PlanFault;
-use sja_report::report;
+use sja_placed_strikes::{PlaceFault, ReadFault, plan_of};
+use sja_plan_reading::PlanFault;
 use sja_serial::run_serial;
 use std::alloc::Global;
+use text_report::report;
 
 /// Runs the plan that these bytes are, with each strike by place at its bit, in one thread, and puts the report of the
 /// run into a text, with a NUL at its end. It gives the length without it.

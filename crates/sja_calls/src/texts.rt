@@ -2,21 +2,21 @@
 
 ghost use Rattle.std.specs.Prelude.{◌≡◌, IfOk, IfErr, OnErr};
 ghost use Rattle.sja_calls.specs.Texts.{Puts, IsNoReport, PutsPlanOf, IsPlanFault};
-ghost use Rattle.sja_report.specs.ReportLines.{report_text};
+ghost use Rattle.text_report.specs.ReportLines.{report_text};
 
 use super::call_fault::CallFault;
-use super::held_session::HeldSession;
+use super::handle::Handle;
 use super::put_text::put_text;
 use super::state::State;
 use sja_log::RunLog;
 use sja_plan::Plan;
 use sja_plan_text::{PlanTextFault, has_texts, plan_text};
-use sja_report::report;
 use sja_session::NoPlan;
 use std::alloc::Global;
 use std::mem::replace;
+use text_report::report;
 
-impl HeldSession {
+impl Handle {
     ghost use Rattle.std.specs.Prelude.{◌≡◌, IfOk, IfErr, OnErr};
     ghost use Rattle.sja_calls.specs.Texts.{Ends, PutsReport, IsReportFault, PutsPlan, IsNoPlanText};
 

@@ -5,7 +5,7 @@ ghost use Rattle.sja_check.specs.Lines.{AreHints};
 
 mod alone;
 mod cut_off;
-mod gift;
+mod given_item;
 mod ignored_steps;
 mod late;
 mod of_node;
@@ -27,7 +27,7 @@ use cut_off::cut_off;
 use late::late_strikes;
 use of_node::node_hints;
 use sja_log::{End, RunLog};
-use sja_plan::{Plan, RAW_VERSION, Turn};
+use sja_plan::{FIRST_BY_BYTES, Plan, Turn};
 use std::alloc::Global;
 use story::{Story, stories_of};
 use waiting::waiting_hints;
@@ -59,7 +59,7 @@ pub fn hints(alloc: Global, bytes: &[u8], plan: &Plan, log: &RunLog) -> Result<S
 /// Says what a run of this plan left out.
 fn left_out(page: &mut Page, document: &Document, plan: &Plan, log: &RunLog) {
     let mut stories = Vec::new(page.alloc);
-    if plan.version() < RAW_VERSION {
+    if plan.version() < FIRST_BY_BYTES {
         cut_off(page, document, plan, log);
     } else {
         match stories_of(page.alloc, log) {

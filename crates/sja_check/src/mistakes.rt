@@ -24,7 +24,7 @@ use general::general;
 use keys::of_keys;
 use long::in_long;
 use numbers::of_count;
-use sja_plan::{MOST_BYTES, PlanFault};
+use sja_plan_reading::{MOST_BYTES, PlanFault};
 use std::alloc::Global;
 use toml::Value;
 use toml_fault::no_toml;

@@ -1,7 +1,7 @@
 //! The nearest of several words.
 
 use super::page::Page;
-use sja_plan::REGISTERS;
+use sja_plan_reading::REGISTERS;
 use strsim::osa_distance;
 
 /// How many characters a word has at most for which a near one is looked for (this project's own rule).

@@ -1,4 +1,4 @@
--- What was put, got, released and is left, by journal and deeds.
+-- What was put, got, released and is left, by journal and acts.
 pub mod Counts
 pub mod Dry
 pub mod Own

@@ -1,6 +1,6 @@
--- the registers after a step, and what deeds are
+-- the registers after a step, and what acts are
 pub mod Registers
-pub mod Deeds
+pub mod TypedActs
 pub mod Step
 pub mod LogOfSteps
 pub mod Trace

@@ -1,4 +1,4 @@
--- The log of a driver, deed by deed.
+-- The log of a driver, act by act.
 pub mod Sections
 pub mod Stepping
 pub mod Going

@@ -2,7 +2,6 @@
 pub mod Fronts
 pub mod Later
 pub mod Moments
-pub mod Ordering
 pub mod Stepping
 pub mod Timings
 pub mod AbortsDue

@@ -1,22 +1,22 @@
 -- A try of a step at an end and a port (this project's own rule).
 use Rattle.std.specs.Prelude.{◌≡◌, ◌+◌, ◌<◌, ◌++◌, ℕ, Bool, true, false, None, List, length}
-use Rattle.sja_link.specs.Sizes.{most_activations}
-use Rattle.sja_link.specs.declared.down.Down.{Down}
-use Rattle.sja_link.specs.declared.up.Up.{Up}
-use Rattle.sja_link.specs.Lists.{Lists, messages, on, is_on, same_on}
+use Rattle.sja_journal.specs.Sizes.{most_activations}
+use Rattle.sja_journal.specs.declared.down.Down.{Down}
+use Rattle.sja_journal.specs.declared.up.Up.{Up}
+use Rattle.sja_journal.specs.Lists.{Lists, messages, on, is_on, same_on}
 use Rattle.sja_link.specs.Looking.{Pulls, IsTaken, Refuses, off_among}
 use Rattle.sja_regs.specs.declared.registers.Registers.{Registers}
 use Rattle.sja_regs.specs.Commands.{command_of, requests, command_faults}
 use Rattle.sja_regs.specs.InterruptLine.{is_line_active}
 use Rattle.sja_regs.specs.Refusals.{first_fault}
-use Rattle.sja_script.specs.declared.step.Step.{Step}
-use Rattle.sja_script.specs.declared.step.Step.TheVariants.{Start, Stop, Window, Release, Read}
-use Rattle.sja_script.specs.declared.step.Step.TheVariants.{Write, Load, Command, Await, Sent, Interrupt, At}
+use Rattle.sja_steps.specs.declared.step.Step.{Step}
+use Rattle.sja_steps.specs.declared.step.Step.TheVariants.{Start, Stop, Window, Release, Read}
+use Rattle.sja_steps.specs.declared.step.Step.TheVariants.{Write, Load, Command, Await, Sent, Interrupt, At}
 use Rattle.sja_driver.specs.declared.any_driver.AnyDriver.{AnyDriver}
 use Rattle.sja_driver.specs.declared.any_driver.AnyDriver.TheVariants.{InReset, InActive}
 use Rattle.sja_driver.specs.AnyDrivers.{is_out, opened_of, held_of, off_of, seen_by, link_used, IsDriverOf}
 use Rattle.sja_driver.specs.Carried.{Sees, Tells}
-use Rattle.sja_driver.specs.Deeds.{FitsState}
+use Rattle.sja_driver.specs.TypedActs.{FitsState}
 use Rattle.sja_driver.specs.Drivers.{started_in, held_in, off_in}
 use Rattle.sja_driver.specs.Giving.{IsGiven}
 use Rattle.sja_driver.specs.Tries.{Tried, IfAnswered, IfUnmet, IsOf, ended_by, released_by, gave_by, port_after}

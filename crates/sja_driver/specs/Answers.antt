@@ -2,10 +2,10 @@
 use Rattle.std.specs.Prelude.{ℕ, Option, Some, None, Result, Ok, Err}
 use Rattle.sja_regs.specs.declared.reg_fault.RegFault.{RegFault}
 use Rattle.sja_regs.specs.declared.reg_fault.RegFault.TheVariants as fault
-use Rattle.sja_script.specs.declared.refusal.Refusal.{Refusal}
-use Rattle.sja_script.specs.declared.refusal.Refusal.TheVariants as refusal
-use Rattle.sja_script.specs.declared.step_answer.StepAnswer.{StepAnswer}
-use Rattle.sja_script.specs.declared.step_answer.StepAnswer.TheVariants.{Done, Value, Refused}
+use Rattle.sja_steps.specs.declared.refusal.Refusal.{Refusal}
+use Rattle.sja_steps.specs.declared.refusal.Refusal.TheVariants as refusal
+use Rattle.sja_steps.specs.declared.step_answer.StepAnswer.{StepAnswer}
+use Rattle.sja_steps.specs.declared.step_answer.StepAnswer.TheVariants.{Done, Value, Refused}
 
 -- a port's refusal as a step's
 abbrev pub refusal_of : RegFault → Refusal

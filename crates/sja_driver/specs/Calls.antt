@@ -1,7 +1,7 @@
 -- What calls of a driver do that several of them have in common (this project's own rule).
 use Rattle.std.specs.Prelude.{◌≡◌, ℕ, [], ◌∷◌, Result, OnOk, OnErr, IfErr}
-use Rattle.sja_link.specs.declared.up.Up.TheVariants.{Stop}
-use Rattle.sja_link.specs.Lists.{Lists, on, is_on}
+use Rattle.sja_journal.specs.declared.up.Up.TheVariants.{Stop}
+use Rattle.sja_journal.specs.Lists.{Lists, on, is_on}
 use Rattle.sja_link.specs.Looking.{Pulls, IsTaken}
 use Rattle.sja_regs.specs.declared.reg_fault.RegFault.{RegFault}
 use Rattle.sja_regs.specs.declared.registers.Registers.{Registers}

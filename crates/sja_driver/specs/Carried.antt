@@ -1,8 +1,8 @@
 -- What a step sees, and what it gives and leaves by the port (this project's own rule).
 use Rattle.std.specs.Prelude.{◌≡◌, ◌≤◌, ◌<◌, ◌⊎◌, ◌&&◌, not, ℕ, Bool, true, false, List, [], ◌∷◌, length}
 use Rattle.can_frame.specs.declared.buffer_view.BufferView.{BufferView}
-use Rattle.sja_link.specs.declared.up.Up.{Up}
-use Rattle.sja_link.specs.declared.up.Up.TheVariants.{Start as StartItem, Credit, Stop as StopItem}
+use Rattle.sja_journal.specs.declared.up.Up.{Up}
+use Rattle.sja_journal.specs.declared.up.Up.TheVariants.{Start as StartItem, Credit, Stop as StopItem}
 use Rattle.sja_regs.specs.declared.registers.Registers.{Registers}
 use Rattle.sja_regs.specs.declared.command.Command.{Command as CommandBits}
 use Rattle.sja_regs.specs.Addresses.{register_at}
@@ -12,13 +12,13 @@ use Rattle.sja_regs.specs.InterruptLine.{is_line_active}
 use Rattle.sja_regs.specs.Refusals.{first_fault}
 use Rattle.sja_regs.specs.Registers.{config_of, after_entering_reset}
 use Rattle.sja_regs.specs.Writing.{write_faults_at, after_writing_at, load_faults, after_loading}
-use Rattle.sja_script.specs.declared.step.Step.{Step}
-use Rattle.sja_script.specs.declared.step.Step.TheVariants.{Start, Stop, Window, Release, Read}
-use Rattle.sja_script.specs.declared.step.Step.TheVariants.{Write, Load, Command, Await, Sent, Interrupt, At}
-use Rattle.sja_script.specs.declared.refusal.Refusal.TheVariants.{Stopped, Empty, Closed}
-use Rattle.sja_script.specs.declared.step_answer.StepAnswer.{StepAnswer}
-use Rattle.sja_script.specs.declared.step_answer.StepAnswer.TheVariants.{Done as DoneAnswer, NoMessage}
-use Rattle.sja_script.specs.declared.step_answer.StepAnswer.TheVariants.{Shown, Released, Refused}
+use Rattle.sja_steps.specs.declared.step.Step.{Step}
+use Rattle.sja_steps.specs.declared.step.Step.TheVariants.{Start, Stop, Window, Release, Read}
+use Rattle.sja_steps.specs.declared.step.Step.TheVariants.{Write, Load, Command, Await, Sent, Interrupt, At}
+use Rattle.sja_steps.specs.declared.refusal.Refusal.TheVariants.{Stopped, Empty, Closed}
+use Rattle.sja_steps.specs.declared.step_answer.StepAnswer.{StepAnswer}
+use Rattle.sja_steps.specs.declared.step_answer.StepAnswer.TheVariants.{Done as DoneAnswer, NoMessage}
+use Rattle.sja_steps.specs.declared.step_answer.StepAnswer.TheVariants.{Shown, Released, Refused}
 use Rattle.sja_driver.specs.Answers.{done_unless, value_answer}
 use Rattle.sja_driver.specs.Ports.{after_start, sent_by}
 

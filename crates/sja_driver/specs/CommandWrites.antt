@@ -5,8 +5,8 @@ use Rattle.sja_regs.specs.declared.registers.Registers.{Registers}
 use Rattle.sja_regs.specs.Bits.{byte}
 use Rattle.sja_regs.specs.Commands.{requests}
 use Rattle.sja_regs.specs.Writing.{is_first_version}
-use Rattle.sja_script.specs.declared.step.Step.{Step}
-use Rattle.sja_script.specs.declared.step.Step.TheVariants.{Release, Command}
+use Rattle.sja_steps.specs.declared.step.Step.{Step}
+use Rattle.sja_steps.specs.declared.step.Step.TheVariants.{Release, Command}
 
 -- the byte with these bits
 abbrev pub command_byte : CommandBits → ℕ
@@ -18,8 +18,8 @@ may_request p c = (c.tr || not (is_first_version p)) && (not p.mode.lom && p.tbs
 
 -- of a command what can be done, but for RRB, which is a step of its own: each bit does its own. A request that can't
 -- be made is left out with its AT, which is no abort then (this project's own rule); CDO is always done
-abbrev pub doable : Registers → CommandBits → CommandBits
-doable p c =
+abbrev pub permitted_part : Registers → CommandBits → CommandBits
+permitted_part p c =
     record {
       tr = c.tr && may_request p c;
       at = c.at && (may_request p c || not (requests c));
@@ -39,4 +39,4 @@ releases rrb = if rrb then Release ∷ [] else []
 -- in reset mode every write is ignored (this project's own rule: of the data sheet the reset values of the bits alone
 -- speak of it, "absent" and "no action", 6.4.2). Out of it the command comes first, and then the release
 abbrev pub command_steps : Registers → CommandBits → List Step
-command_steps p c = if p.mode.rm then [] else commands (command_byte (doable p c)) ++ releases c.rrb
+command_steps p c = if p.mode.rm then [] else commands (command_byte (permitted_part p c)) ++ releases c.rrb

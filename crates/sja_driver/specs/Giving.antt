@@ -1,7 +1,7 @@
 -- What a driver gives at its end (this project's own rule).
 use Rattle.std.specs.Prelude.{List, ◌++◌}
-use Rattle.sja_link.specs.declared.up.Up.{Up}
-use Rattle.sja_link.specs.Lists.{Lists}
+use Rattle.sja_journal.specs.declared.up.Up.{Up}
+use Rattle.sja_journal.specs.Lists.{Lists}
 
 -- with several items given
 abbrev pub with_gives : Lists → List Up → Lists

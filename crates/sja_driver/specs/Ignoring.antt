@@ -3,13 +3,13 @@ use Rattle.std.specs.Prelude.{◌==◌, ◌&&◌, ◌||◌, not, ℕ, Bool, if�
 use Rattle.sja_regs.specs.declared.command.Command.{Command}
 use Rattle.sja_regs.specs.declared.registers.Registers.{Registers}
 use Rattle.sja_regs.specs.Commands.{command_of, requests}
-use Rattle.sja_script.specs.declared.ignored.Ignored.{Ignored}
-use Rattle.sja_script.specs.declared.ignored.Ignored.TheVariants as why
-use Rattle.sja_script.specs.declared.refusal.Refusal.{Refusal}
-use Rattle.sja_script.specs.declared.refusal.Refusal.TheVariants as refusal
-use Rattle.sja_script.specs.declared.step_answer.StepAnswer.{StepAnswer}
-use Rattle.sja_script.specs.declared.step_answer.StepAnswer.TheVariants.{Done, Refused, Ignored as IgnoredAnswer}
-use Rattle.sja_driver.specs.Deeds.{Deed}
+use Rattle.sja_steps.specs.declared.ignored.Ignored.{Ignored}
+use Rattle.sja_steps.specs.declared.ignored.Ignored.TheVariants as why
+use Rattle.sja_steps.specs.declared.refusal.Refusal.{Refusal}
+use Rattle.sja_steps.specs.declared.refusal.Refusal.TheVariants as refusal
+use Rattle.sja_steps.specs.declared.step_answer.StepAnswer.{StepAnswer}
+use Rattle.sja_steps.specs.declared.step_answer.StepAnswer.TheVariants.{Done, Refused, Ignored as IgnoredAnswer}
+use Rattle.sja_driver.specs.TypedActs.{TypedAct}
 
 -- ---- by the registers found
 
@@ -30,7 +30,7 @@ ignored_at p address value =
     if address == 1 then ignored_command p (command_of value)
     else if is_kept_in_reset address && not p.mode.rm then Some why.ResetOnly else None
 
--- ---- by what came of its deeds
+-- ---- by what came of its acts
 
 -- why the port or the window refused one: a register that can only be read, or in reset mode alone (6.4.1, of MOD its
 -- bits 1 to 3, 6.4.3); the transmit buffer while TBS is 0 (6.4.13); a command in reset mode, which bus-off has entered;
@@ -53,16 +53,16 @@ abbrev pub or_by_answer : Option Ignored → StepAnswer → Option Ignored
 or_by_answer (Some cause) answer = Some cause
 or_by_answer None answer = ignored_by_answer answer
 
--- what was known first, or else what the first of these deeds says that says it
-abbrev pub or_by_deeds : Option Ignored → List Deed → Option Ignored
-or_by_deeds known [] = known
-or_by_deeds known (d ∷ deeds) = or_by_deeds (or_by_answer known d.answer) deeds
+-- what was known first, or else what the first of these acts says that says it
+abbrev pub or_by_acts : Option Ignored → List TypedAct → Option Ignored
+or_by_acts known [] = known
+or_by_acts known (d ∷ acts) = or_by_acts (or_by_answer known d.answer) acts
 
 -- ---- a write
 
--- why a write of this value to this address was ignored that found these registers, and that these deeds were
-abbrev pub ignored_by : Registers → ℕ → ℕ → List Deed → Option Ignored
-ignored_by p address value deeds = or_by_deeds (ignored_at p address value) deeds
+-- why a write of this value to this address was ignored that found these registers, and that these acts were
+abbrev pub ignored_by : Registers → ℕ → ℕ → List TypedAct → Option Ignored
+ignored_by p address value acts = or_by_acts (ignored_at p address value) acts
 
 -- what it answers
 abbrev pub write_answer : Option Ignored → StepAnswer

@@ -1,18 +1,18 @@
 -- The logged step: one step of a script at the right one of a node's links (this project's own rule).
 use Rattle.std.specs.Prelude.{◌≡◌, ◌<◌, ◌≤◌, ◌+◌, ◌++◌, ℕ, Option, None, length}
-use Rattle.sja_link.specs.Lists.{Lists, OthersStand}
+use Rattle.sja_journal.specs.Lists.{Lists, OthersStand}
 use Rattle.sja_regs.specs.declared.registers.Registers.{Registers}
-use Rattle.sja_script.specs.declared.step.Step.{Step}
-use Rattle.sja_script.specs.declared.step_answer.StepAnswer.{StepAnswer}
+use Rattle.sja_steps.specs.declared.step.Step.{Step}
+use Rattle.sja_steps.specs.declared.step_answer.StepAnswer.{StepAnswer}
 use Rattle.sja_driver.specs.declared.any_driver.AnyDriver.{AnyDriver}
-use Rattle.sja_driver.specs.declared.kept_bytes.KeptBytes.{KeptBytes}
+use Rattle.sja_driver.specs.declared.unmodelled_registers.UnmodelledRegisters.{UnmodelledRegisters}
 use Rattle.sja_driver.specs.declared.logged_driver.LoggedDriver.{LoggedDriver}
 use Rattle.sja_driver.specs.declared.work_log.WorkLog.{WorkLog}
 use Rattle.sja_driver.specs.Acting.{ActsOn}
 use Rattle.sja_driver.specs.AnyDrivers.{IsDriverOf, link_used, opened_of}
 use Rattle.sja_driver.specs.Holding.{Goes}
 use Rattle.sja_driver.specs.Logs.{HasRoom, releases_in, left_in, release_room, left_room, releases_by, left_by}
-use Rattle.sja_driver.specs.Logs.{deeds_by}
+use Rattle.sja_driver.specs.Logs.{acts_by}
 use Rattle.sja_driver.specs.Tries.{Tried, answer_of}
 
 -- whose driver it is, the driver in its state, and the log
@@ -26,7 +26,7 @@ abbrev pub log_of : LoggedDriver → WorkLog
 log_of d = d.log
 
 -- the registers that are kept for it
-abbrev pub kept_of : LoggedDriver → KeptBytes
+abbrev pub kept_of : LoggedDriver → UnmodelledRegisters
 kept_of d = d.kept
 
 -- how many of its activations have ended
@@ -39,7 +39,7 @@ pub record IsLawful (d : LoggedDriver) : Type 0 where
   pub own : IsDriverOf (node_of d) (ended_of d) (driver_of d)
   pub few : opened_of (driver_of d) ≤ left_room (log_of d)
 
--- a step may be tried in this version: the log has room for one deed more, and the end is that of the node's links
+-- a step may be tried in this version: the log has room for one act more, and the end is that of the node's links
 pub record MayStep {E : Type 0} (node_at : E → ℕ) (version : ℕ) (was : LoggedDriver) (end : E) : Type 0 where
   pub lawful : IsLawful was
   pub room : HasRoom version 1 (log_of was)
@@ -52,7 +52,7 @@ pub record MayRelease {E : Type 0} (node_at : E → ℕ) (was : LoggedDriver) (e
   pub own : node_at end ≡ node_of was
 
 -- what is in order after a try, whatever the step: the driver is still the node's, the end is the same one, the links
--- of all activations but the one in use stand as they did, and the log took the room of one deed, or none where it
+-- of all activations but the one in use stand as they did, and the log took the room of one act, or none where it
 -- isn't done. Whoever tried it has to enter that it is done, and what is kept then
 pub record StaysLawful {E : Type 0} (alike : E → E → Type 0) (stands : E → ℕ → Lists → Type 0)
     (was now : LoggedDriver) (old new : E) (answer : Option StepAnswer) : Type 0 where
@@ -81,6 +81,6 @@ pub record Steps {E : Type 0} (alike : E → E → Type 0) (stands : E → ℕ �
   -- for which there is as much room as there was
   pub release_room : release_room (log_of now) ≡ release_room (log_of was)
   pub left_room : left_room (log_of now) ≡ left_room (log_of was)
-  -- and how that goes on with all deeds before it, for every journal, after however many bits it was
+  -- and how that goes on with all acts before it, for every journal, after however many bits it was
   pub goes : (bits : ℕ) → Goes stands p.version (driver_of was) (driver_of now) (log_of was) (log_of now) old new
-      (deeds_by p step tried bits)
+      (acts_by p step tried bits)

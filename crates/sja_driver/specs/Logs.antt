@@ -2,25 +2,25 @@
 use Rattle.std.specs.Prelude.{◌≡◌, ◌==◌, ◌+◌, ◌≤◌, ◌++◌, ℕ, if◌then◌else◌, List, [], ◌∷◌, length, map}
 use Rattle.sja_link.specs.declared.driver_ledger.DriverLedger.{DriverLedger}
 use Rattle.sja_link.specs.DriverLedgers.{held_by}
-use Rattle.sja_link.specs.Recents.{KeepsAll}
+use Rattle.sja_journal.specs.BoundedHistories.{KeepsAll}
 use Rattle.lemmas.specs.Gathering.{gathered}
 use Rattle.sja_regs.specs.declared.registers.Registers.{Registers}
-use Rattle.sja_script.specs.declared.done.Done.{Done}
-use Rattle.sja_script.specs.declared.step.Step.{Step}
-use Rattle.sja_script.specs.declared.step_answer.StepAnswer.{StepAnswer}
-use Rattle.sja_script.specs.declared.step_answer.StepAnswer.TheVariants.{Done as DoneAnswer, Released as ReleasedAnswer}
-use Rattle.sja_link.specs.Sizes.{most_activations}
+use Rattle.sja_steps.specs.declared.step_record.StepRecord.{StepRecord}
+use Rattle.sja_steps.specs.declared.step.Step.{Step}
+use Rattle.sja_steps.specs.declared.step_answer.StepAnswer.{StepAnswer}
+use Rattle.sja_steps.specs.declared.step_answer.StepAnswer.TheVariants.{Done as DoneAnswer, Released as ReleasedAnswer}
+use Rattle.sja_journal.specs.Sizes.{most_activations}
 use Rattle.sja_driver.specs.declared.any_driver.AnyDriver.{AnyDriver}
 use Rattle.sja_driver.specs.declared.release.Release.{Release}
 use Rattle.sja_driver.specs.declared.work_log.WorkLog.{WorkLog}
 use Rattle.sja_driver.specs.AnyDrivers.{is_out, opened_of}
-use Rattle.sja_driver.specs.Deeds.{Deed, AreAnswered, opened_by, is_active, deeds_of, released_lengths}
+use Rattle.sja_driver.specs.TypedActs.{TypedAct, AreAnswered, opened_by, is_active, acts_of, released_lengths}
 use Rattle.sja_driver.specs.Carried.{carried}
 use Rattle.sja_driver.specs.Tries.{Tried}
 use Rattle.sja_driver.specs.Tries.Tried.{Unmet, Answered, Released, Ended}
 
 -- the steps done, the messages released, and the ledgers of the activations that ended, each oldest first
-abbrev pub done_in : WorkLog → List Done
+abbrev pub done_in : WorkLog → List StepRecord
 done_in l = l.done.items
 
 abbrev pub releases_in : WorkLog → List Release
@@ -45,10 +45,10 @@ pub record IsEmpty (l : WorkLog) : Type 0 where
   pub releases : releases_in l ≡ []
   pub left : left_in l ≡ []
 
--- it was made for so many steps done, for what so many deeds come to, and for all activations of a node in this version
-pub record IsMadeFor (version steps deeds : ℕ) (l : WorkLog) : Type 0 where
+-- it was made for so many steps done, for what so many acts come to, and for all activations of a node in this version
+pub record IsMadeFor (version steps acts : ℕ) (l : WorkLog) : Type 0 where
   pub done : done_room l ≡ steps
-  pub releases : release_room l ≡ deeds
+  pub releases : release_room l ≡ acts
   pub left : left_room l ≡ most_activations version
 
 -- it is made for no more of each than lists that forget none, so all that it says can be read
@@ -57,7 +57,7 @@ pub record KeepsLog (l : WorkLog) : Type 0 where
   pub releases : KeepsAll (release_room l)
   pub left : KeepsAll (left_room l)
 
--- there is room for what so many deeds more come to, and for all activations of a node in this version
+-- there is room for what so many acts more come to, and for all activations of a node in this version
 pub record HasRoom (version steps : ℕ) (l : WorkLog) : Type 0 where
   pub releases : length (releases_in l) + steps ≤ release_room l
   pub left : most_activations version ≤ left_room l
@@ -77,15 +77,15 @@ left_by (Released m) = []
 left_by (Ended ledger) = ledger ∷ []
 
 -- a step that was done, at these registers and with this answer
-abbrev pub deed_by : Registers → Step → StepAnswer → ℕ → Deed
-deed_by p step answer bits = record { step = step; answer = answer; bits = bits; gave = carried p step answer }
+abbrev pub act_by : Registers → Step → StepAnswer → ℕ → TypedAct
+act_by p step answer bits = record { step = step; answer = answer; bits = bits; gave = carried p step answer }
 
--- the deed that it was, if it was one
-abbrev pub deeds_by : Registers → Step → Tried → ℕ → List Deed
-deeds_by p one Unmet bits = []
-deeds_by p one (Answered answer) bits = deed_by p one answer bits ∷ []
-deeds_by p one (Released m) bits = deed_by p one (ReleasedAnswer (length m)) bits ∷ []
-deeds_by p one (Ended ledger) bits = deed_by p one DoneAnswer bits ∷ []
+-- the act that it was, if it was one
+abbrev pub acts_by : Registers → Step → Tried → ℕ → List TypedAct
+acts_by p one Unmet bits = []
+acts_by p one (Answered answer) bits = act_by p one answer bits ∷ []
+acts_by p one (Released m) bits = act_by p one (ReleasedAnswer (length m)) bits ∷ []
+acts_by p one (Ended ledger) bits = act_by p one DoneAnswer bits ∷ []
 
 -- ---- what it says of each activation
 
@@ -101,11 +101,11 @@ released_of rs a = gathered (of_activation a) rs
 abbrev pub leaves : List DriverLedger → List (List ℕ) → List (List (List ℕ))
 leaves left held = map (λ (l : DriverLedger). held_by l) left ++ held ∷ []
 
--- log and state of a driver are those of these deeds, each answered as in this version its state has it: of each
+-- log and state of a driver are those of these acts, each answered as in this version its state has it: of each
 -- activation the messages released are as long as its releases answered
-pub record Traces (version : ℕ) (driver : AnyDriver) (log : WorkLog) (deeds : List Deed) : Type 0 where
+pub record Traces (version : ℕ) (driver : AnyDriver) (log : WorkLog) (acts : List TypedAct) : Type 0 where
   pub released : (a : ℕ) → map (λ (m : List ℕ). length m) (released_of (releases_in log) a)
-      ≡ released_lengths (deeds_of deeds a)
-  pub opened : opened_by deeds ≡ opened_of driver
-  pub out : is_active deeds ≡ is_out driver
-  pub answered : AreAnswered version deeds
+      ≡ released_lengths (acts_of acts a)
+  pub opened : opened_by acts ≡ opened_of driver
+  pub out : is_active acts ≡ is_out driver
+  pub answered : AreAnswered version acts

@@ -3,8 +3,8 @@ use Rattle.std.specs.Prelude.{◌++◌, ◌||◌, ℕ, Bool, true, if◌then◌e
 use Rattle.sja_regs.specs.declared.mode.Mode.{Mode}
 use Rattle.sja_regs.specs.Modes.{mode_of, mode_byte}
 use Rattle.sja_regs.specs.Writing.{is_other_mode}
-use Rattle.sja_script.specs.declared.step.Step.{Step}
-use Rattle.sja_script.specs.declared.step.Step.TheVariants.{Start, Stop, Write}
+use Rattle.sja_steps.specs.declared.step.Step.{Step}
+use Rattle.sja_steps.specs.declared.step.Step.TheVariants.{Start, Stop, Write}
 
 -- the byte of MOD with RM at 1 whose other bits are these
 abbrev pub reset_byte : Mode → ℕ

@@ -1,13 +1,13 @@
 -- A journal at an earlier moment of its run (this project's own rule).
 use Rattle.std.specs.Prelude.{◌≡◌, ◌≤◌, ℕ, zero, suc, List, [], ◌∷◌, ◌++◌, length}
-use Rattle.can_bits.specs.declared.level.Level.{Level}
-use Rattle.sja_link.specs.NodeWords.{NodeEntry}
-use Rattle.sja_link.specs.declared.entry.Entry.{Entry}
-use Rattle.sja_link.specs.declared.entry.Entry.TheVariants.{Bit, Up as Item, Abort, Stored, Overrun, Off}
-use Rattle.sja_link.specs.Carried.{bits_of, taken_of}
+use Rattle.can_levels.specs.declared.level.Level.{Level}
+use Rattle.sja_journal.specs.NodeWords.{NodeEntry}
+use Rattle.sja_journal.specs.declared.entry.Entry.{Entry}
+use Rattle.sja_journal.specs.declared.entry.Entry.TheVariants.{Bit, Up as Item, Abort, Stored, Overrun, Off}
+use Rattle.sja_journal.specs.Carried.{bits_of, taken_of}
 use Rattle.lemmas.specs.Picking.{EachAfter}
-use Rattle.sja_link.specs.Records.{record_of}
-use Rattle.sja_driver.specs.Deeds.{Deed, given_in}
+use Rattle.sja_journal.specs.Records.{record_of}
+use Rattle.sja_driver.specs.TypedActs.{TypedAct, given_in}
 
 -- the entries up to the moment when so many bits were run and so many items taken. An abort belongs to the bit after
 -- it, a verdict and bus-off to the bit before
@@ -23,8 +23,8 @@ at_moment bits items (Stored m ∷ j) = Stored m ∷ at_moment bits items j
 at_moment bits items (Overrun m ∷ j) = Overrun m ∷ at_moment bits items j
 at_moment bits items (Off ∷ j) = Off ∷ at_moment bits items j
 
--- the node's record after so many bits, when all that these deeds gave was taken
-abbrev pub record_at : List Entry → List Deed → ℕ → List NodeEntry
+-- the node's record after so many bits, when all that these acts gave was taken
+abbrev pub record_at : List Entry → List TypedAct → ℕ → List NodeEntry
 record_at j before bits = record_of (at_moment bits (length (given_in before)) j)
 
 -- ---- the same, as a front of the journal

@@ -1,6 +1,6 @@
 -- A look at what came over a driver's link, which is no step of it (this project's own rule).
 use Rattle.std.specs.Prelude.{◌≡◌, ℕ, []}
-use Rattle.sja_link.specs.Lists.{Lists}
+use Rattle.sja_journal.specs.Lists.{Lists}
 use Rattle.sja_driver.specs.declared.any_driver.AnyDriver.{AnyDriver}
 use Rattle.sja_driver.specs.declared.any_driver.AnyDriver.TheVariants.{InReset, InActive}
 use Rattle.sja_driver.specs.declared.logged_driver.LoggedDriver.{LoggedDriver}
@@ -21,7 +21,7 @@ Observes stands dry old new (InActive was) (InReset now) = ⊥
 Observes stands dry old new (InActive was) (InActive now) = TakesIn stands dry old new was now
 
 -- a driver looked at the link of its present activation. No step was done by that: its log stays, and log and links go
--- on with all deeds before it, and with no more
+-- on with all acts before it, and with no more
 pub record Looked {E : Type 0} (stands : E → ℕ → Lists → Type 0) (dry : E → ℕ → Type 0) (was now : LoggedDriver)
     (old new : E) : Type 0 where
   pub observes : Observes stands dry old new (driver_of was) (driver_of now)

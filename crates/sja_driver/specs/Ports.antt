@@ -1,8 +1,8 @@
 -- What a driver's calls do at its port (SJA1000 data sheet, 6.4.3, reset mode, and 6.4.4, command register).
 use Rattle.std.specs.Prelude.{Option, Some, None, Result, Ok, Err, List, [], ◌∷◌, if◌then◌else◌}
-use Rattle.can_node.specs.declared.request.Request.{Request}
-use Rattle.sja_link.specs.declared.up.Up.{Up}
-use Rattle.sja_link.specs.declared.up.Up.TheVariants.{Send}
+use Rattle.can_node_rules.specs.declared.request.Request.{Request}
+use Rattle.sja_journal.specs.declared.up.Up.{Up}
+use Rattle.sja_journal.specs.declared.up.Up.TheVariants.{Send}
 use Rattle.sja_regs.specs.declared.command.Command.{Command}
 use Rattle.sja_regs.specs.declared.reg_fault.RegFault.{RegFault}
 use Rattle.sja_regs.specs.declared.registers.Registers.{Registers}

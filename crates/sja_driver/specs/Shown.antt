@@ -1,10 +1,10 @@
 -- A port and its node's record, as to error counters and status (this project's own rule).
 use Rattle.std.specs.Prelude.{◌≡◌, List}
-use Rattle.sja_link.specs.declared.entry.Entry.{Entry}
+use Rattle.sja_journal.specs.declared.entry.Entry.{Entry}
 use Rattle.sja_regs.specs.declared.bus_turn.BusTurn.{BusTurn}
 use Rattle.sja_regs.specs.declared.registers.Registers.{Registers}
 use Rattle.sja_regs.specs.Turns.{rxerr_after, txerr_after, rs_after, ts_after, bs_after}
-use Rattle.sja_wire.specs.Telling.{Says}
+use Rattle.sja_bus_rules.specs.Telling.{Says}
 
 -- the port shows what stands at the end of the record: whatever turn says that would leave its error counters, RS, TS
 -- and BS as they are

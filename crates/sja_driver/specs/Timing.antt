@@ -1,11 +1,11 @@
 -- When items are given and taken (this project's own rule).
 use Rattle.std.specs.Prelude.{ℕ, List, map}
-use Rattle.sja_link.specs.declared.up.Up.{Up}
-use Rattle.sja_link.specs.declared.entry.Entry.{Entry}
+use Rattle.sja_journal.specs.declared.up.Up.{Up}
+use Rattle.sja_journal.specs.declared.entry.Entry.{Entry}
 use Rattle.lemmas.specs.Gathering.{gathered}
-use Rattle.sja_link.specs.Parts.{of_part}
-use Rattle.sja_link.specs.Carried.{taken_in}
-use Rattle.sja_driver.specs.Deeds.{Deed, deeds_of}
+use Rattle.sja_journal.specs.Parts.{of_part}
+use Rattle.sja_journal.specs.Carried.{taken_in}
+use Rattle.sja_driver.specs.TypedActs.{TypedAct, acts_of}
 
 -- an item, with the number of bits before it
 pub record Timed : Type 0 where
@@ -20,5 +20,5 @@ abbrev pub taken_when : List Entry → ℕ → List Timed
 taken_when = of_part (λ q. map (timed q.before.bits) (taken_in q.entry))
 
 -- the items given in an activation, each with the number of bits before its step
-abbrev pub given_when : List Deed → ℕ → List Timed
-given_when deeds a = gathered (λ (d : Deed). map (timed d.bits) d.gave) (deeds_of deeds a)
+abbrev pub given_when : List TypedAct → ℕ → List Timed
+given_when acts a = gathered (λ (d : TypedAct). map (timed d.bits) d.gave) (acts_of acts a)

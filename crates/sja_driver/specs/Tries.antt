@@ -1,18 +1,18 @@
 -- What comes of a try of a step (this project's own rule).
 use Rattle.std.specs.Prelude.{◌≡◌, ◌+◌, ◌++◌, ℕ, Bool, Option, Some, None, List, [], ◌∷◌, length}
 use Rattle.sja_link.specs.declared.driver_ledger.DriverLedger.{DriverLedger}
-use Rattle.sja_link.specs.declared.up.Up.{Up}
+use Rattle.sja_journal.specs.declared.up.Up.{Up}
 use Rattle.sja_link.specs.DriverLedgers.{held_by, knows_bus_off}
 use Rattle.sja_regs.specs.declared.registers.Registers.{Registers}
-use Rattle.sja_script.specs.declared.step.Step.{Step}
-use Rattle.sja_script.specs.declared.step.Step.TheVariants.{Stop, Release}
-use Rattle.sja_script.specs.declared.step_answer.StepAnswer.{StepAnswer}
-use Rattle.sja_script.specs.declared.step_answer.StepAnswer.TheVariants.{Done as DoneAnswer, Released as ReleasedAnswer}
+use Rattle.sja_steps.specs.declared.step.Step.{Step}
+use Rattle.sja_steps.specs.declared.step.Step.TheVariants.{Stop, Release}
+use Rattle.sja_steps.specs.declared.step_answer.StepAnswer.{StepAnswer}
+use Rattle.sja_steps.specs.declared.step_answer.StepAnswer.TheVariants.{Done as DoneAnswer, Released as ReleasedAnswer}
 use Rattle.sja_driver.specs.declared.any_driver.AnyDriver.{AnyDriver}
 use Rattle.sja_driver.specs.declared.any_driver.AnyDriver.TheVariants.{InReset, InActive}
 use Rattle.sja_driver.specs.AnyDrivers.{held_of, off_of}
 use Rattle.sja_driver.specs.Carried.{carried, ported}
-use Rattle.sja_driver.specs.Deeds.{length_in, opened, active_after}
+use Rattle.sja_driver.specs.TypedActs.{length_in, opened, active_after}
 
 -- what came of a try of a step
 pub data Tried : Type 0 where

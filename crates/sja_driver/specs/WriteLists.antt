@@ -1,7 +1,7 @@
 -- The steps of a typed driver that a write is, as values (this project's own rule).
 use Rattle.std.specs.Prelude.{◌++◌, Option, Some, None, List, [], ◌∷◌}
-use Rattle.sja_script.specs.declared.step.Step.{Step}
-use Rattle.sja_script.specs.declared.step.Step.TheVariants.{Await, Sent, Interrupt, At}
+use Rattle.sja_steps.specs.declared.step.Step.{Step}
+use Rattle.sja_steps.specs.declared.step.Step.TheVariants.{Await, Sent, Interrupt, At}
 use Rattle.sja_driver.specs.declared.write_steps.WriteSteps.{WriteSteps}
 
 -- one step, or none

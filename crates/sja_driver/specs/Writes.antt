@@ -4,8 +4,8 @@ use Rattle.std.specs.Prelude.{◌==◌, ℕ, Bool, if◌then◌else◌, List, []
 use Rattle.sja_regs.specs.declared.registers.Registers.{Registers}
 use Rattle.sja_regs.specs.Commands.{command_of}
 use Rattle.sja_regs.specs.Registers.{is_forced}
-use Rattle.sja_script.specs.declared.step.Step.{Step}
-use Rattle.sja_script.specs.declared.step.Step.TheVariants.{Write}
+use Rattle.sja_steps.specs.declared.step.Step.{Step}
+use Rattle.sja_steps.specs.declared.step.Step.TheVariants.{Write}
 use Rattle.sja_driver.specs.ModeWrites.{mode_steps}
 use Rattle.sja_driver.specs.CommandWrites.{command_steps}
 

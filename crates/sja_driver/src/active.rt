@@ -4,7 +4,7 @@ ghost use Rattle.std.specs.Prelude.{◌≡◌, ℕ, List, [], length, true, fals
 ghost use Rattle.sja_link.specs.declared.release_fault.ReleaseFault.TheVariants.{Stopped as FaultStopped};
 ghost use Rattle.sja_link.specs.declared.release_fault.ReleaseFault.TheVariants.{Empty, Busy as ReleaseBusy};
 ghost use Rattle.sja_link.specs.DriverLedgers.{link_of, held_by, knows_bus_off};
-ghost use Rattle.sja_link.specs.Lists.{on, is_on, same_on, OthersStand};
+ghost use Rattle.sja_journal.specs.Lists.{on, is_on, same_on, OthersStand};
 ghost use Rattle.sja_link.specs.Looking.{Pulls, IsTaken, Releases, Refuses, TriesRelease};
 ghost use Rattle.sja_driver.specs.Calls.{Ends, TakesIn};
 ghost use Rattle.sja_driver.specs.Drivers.{node_in, started_in, link_in, activation_in, held_in, off_in};
@@ -12,7 +12,8 @@ ghost use Rattle.sja_driver.specs.Drivers.{node_in, started_in, link_in, activat
 use super::driver::Driver;
 use super::reset::Reset;
 use can_frame::Message;
-use sja_link::{DriverEnd, DriverLedger, LinkId, LostWindow, ReleaseFault, Up};
+use sja_journal::Up;
+use sja_link::{DriverEnd, DriverLedger, LinkId, LostWindow, ReleaseFault};
 use sja_regs::Port;
 
 /// The state of a driver whose activation goes on: the ledger of its messages.

@@ -1,7 +1,7 @@
 //! The calls of a driver out of reset at its port: reads, writes, loads and commands.
 
 ghost use Rattle.std.specs.Prelude.{◌≡◌, [], true, Err, OnOk, OnErr};
-ghost use Rattle.sja_link.specs.Lists.{on, OthersStand};
+ghost use Rattle.sja_journal.specs.Lists.{on, OthersStand};
 ghost use Rattle.sja_link.specs.Showing.{seen_of};
 ghost use Rattle.sja_regs.specs.Addresses.{register_at};
 ghost use Rattle.sja_regs.specs.Commands.{command_of, requests, command_faults, after_command};
@@ -18,7 +18,8 @@ use super::active::Active;
 use super::command_fault::CommandFault;
 use super::driver::Driver;
 use can_frame::Message;
-use sja_link::{DriverEnd, Up};
+use sja_journal::Up;
+use sja_link::DriverEnd;
 use sja_regs::{Port, RegFault};
 
 impl Driver<Active> {

@@ -1,9 +1,9 @@
 //! Steps that an activation alone has: in reset each is refused.
 
 ghost use Rattle.std.specs.Prelude.{◌≡◌};
-ghost use Rattle.sja_link.specs.Lists.{OthersStand};
+ghost use Rattle.sja_journal.specs.Lists.{OthersStand};
 ghost use Rattle.sja_regs.specs.declared.registers.Registers.{Registers};
-ghost use Rattle.sja_script.specs.declared.step.Step.TheVariants.{Window, Release, Load, Command, Await, Sent};
+ghost use Rattle.sja_steps.specs.declared.step.Step.TheVariants.{Window, Release, Load, Command, Await, Sent};
 ghost use Rattle.sja_driver.specs.Acting.{ActsOn};
 ghost use Rattle.sja_driver.specs.AnyDrivers.{link_used};
 ghost use Rattle.sja_driver.specs.Inside.Attempts.{FitsEnd, tried_of};
@@ -15,7 +15,7 @@ use super::command_fault::CommandFault;
 use can_frame::{BufferView, Message};
 use sja_link::{DriverEnd, LostWindow, ReleaseFault};
 use sja_regs::{Port, address};
-use sja_script::{Refusal, StepAnswer};
+use sja_steps::{Refusal, StepAnswer};
 
 /// Looks at the window. No port is touched.
 pub(crate) fn window_step<E: DriverEnd>(driver: &mut AnyDriver, end: &mut E) -> Attempt

@@ -9,7 +9,7 @@ ghost use Rattle.sja_driver.specs.Inside.Attempts.{done_answer};
 
 use sja_regs::bits::is_set;
 use sja_regs::{RegFault, letters};
-use sja_script::{Refusal, StepAnswer};
+use sja_steps::{Refusal, StepAnswer};
 
 /// A port's refusal as a step's.
 pub(crate) fn refusal_of(fault: RegFault) -> Refusal

@@ -1,11 +1,11 @@
 //! What comes of a try of a step that ends no activation.
 
 ghost use Rattle.std.specs.Prelude.{◌≡◌};
-ghost use Rattle.sja_script.specs.declared.step_answer.StepAnswer.TheVariants.{Done, Refused};
+ghost use Rattle.sja_steps.specs.declared.step_answer.StepAnswer.TheVariants.{Done, Refused};
 ghost use Rattle.sja_driver.specs.declared.attempt.Attempt.TheVariants.{Answered};
 
 use can_frame::Message;
-use sja_script::{Refusal, StepAnswer};
+use sja_steps::{Refusal, StepAnswer};
 
 /// What came of a try of a step that ended no activation. A stop that ended one hands out its ledger instead, which is
 /// large and is moved there alone.

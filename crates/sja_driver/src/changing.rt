@@ -1,7 +1,7 @@
 //! Steps that change the state of a driver: start and stop.
 
-ghost use Rattle.sja_link.specs.Lists.{OthersStand};
-ghost use Rattle.sja_script.specs.declared.step.Step.TheVariants.{Start, Stop};
+ghost use Rattle.sja_journal.specs.Lists.{OthersStand};
+ghost use Rattle.sja_steps.specs.declared.step.Step.TheVariants.{Start, Stop};
 ghost use Rattle.sja_driver.specs.Acting.{ActsOn};
 ghost use Rattle.sja_driver.specs.AnyDrivers.{link_used};
 ghost use Rattle.sja_driver.specs.Inside.Attempts.{FitsEnd, tried_of, stopped_by};
@@ -11,9 +11,10 @@ use super::any_driver::AnyDriver;
 use super::attempt::{Attempt, passed, refused};
 use super::driver::Driver;
 use super::reset::{Reset, none_left};
-use sja_link::{DriverEnd, DriverLedger, LinkId, Up};
+use sja_journal::Up;
+use sja_link::{DriverEnd, DriverLedger, LinkId};
 use sja_regs::Port;
-use sja_script::Refusal;
+use sja_steps::Refusal;
 use std::mem;
 
 /// Tries a start. In an activation it is refused.

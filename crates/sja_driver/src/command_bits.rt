@@ -1,7 +1,7 @@
 //! What of a command that is written to CMR can be done, and its byte.
 
 ghost use Rattle.std.specs.Prelude.{◌≡◌, ◌||◌, ◌&&◌, not, false};
-ghost use Rattle.sja_driver.specs.CommandWrites.{command_byte, doable, may_request};
+ghost use Rattle.sja_driver.specs.CommandWrites.{command_byte, permitted_part, may_request};
 
 use sja_regs::bits::bit_at;
 use sja_regs::letters::{AT, CDO, RRB, SRR, TR};
@@ -13,9 +13,9 @@ const TRANSMIT: u8 = 1 << TR;
 const FIRST_VERSION: u8 = 1;
 
 /// Of a command what can be done, but for RRB.
-pub(crate) fn doable(port: &Port, command: Command) -> Command
+pub(crate) fn permitted_part(port: &Port, command: Command) -> Command
     requires { port.now.mode.rm ≡ false }
-    ensures { result ≡ doable port.now command }
+    ensures { result ≡ permitted_part port.now command }
 {
     let may = command.requests() && may_request(port, command);
     Command {

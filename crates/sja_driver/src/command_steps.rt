@@ -4,7 +4,7 @@ ghost use Rattle.std.specs.Prelude.{◌≡◌, ◌++◌};
 ghost use Rattle.sja_regs.specs.Commands.{command_of};
 ghost use Rattle.sja_driver.specs.CommandWrites.{commands, releases, command_steps};
 
-use super::command_bits::{command_byte, doable};
+use super::command_bits::{command_byte, permitted_part};
 use super::in_reset::is_reset;
 use sja_regs::{Command, Port};
 
@@ -29,7 +29,7 @@ pub fn written_command(port: &Port, value: u8) -> WrittenCommand
     }
     let command = Command::of(value);
     WrittenCommand {
-        command: command_byte(doable(port, command)),
+        command: command_byte(permitted_part(port, command)),
         releases: command.rrb,
     }
 }

@@ -8,10 +8,10 @@ ghost use Rattle.sja_driver.specs.Logs.{IsEmpty, Traces, done_in, done_room};
 
 use super::any_driver::AnyDriver;
 use super::driver::Driver;
-use super::kept_bytes::KeptBytes;
+use super::unmodelled_registers::UnmodelledRegisters;
 use super::work_log::WorkLog;
 use can_frame::Message;
-use sja_script::StepAnswer;
+use sja_steps::StepAnswer;
 
 /// The driver of a node, in either state, with the log of what it did (this project's own rule).
 ///
@@ -22,7 +22,7 @@ pub struct LoggedDriver {
     pub(crate) node: u8,
     pub(crate) driver: AnyDriver,
     pub(crate) log: WorkLog,
-    pub(crate) kept: KeptBytes,
+    pub(crate) kept: UnmodelledRegisters,
 }
 
 impl LoggedDriver {
@@ -41,7 +41,7 @@ impl LoggedDriver {
             node,
             driver: AnyDriver::InReset(Driver::new(node)),
             log,
-            kept: KeptBytes::new(),
+            kept: UnmodelledRegisters::new(),
         }
     }
 
@@ -66,7 +66,7 @@ impl LoggedDriver {
     }
 
     /// The registers that are kept for it and have no effect on the bus.
-    pub fn kept(&self) -> KeptBytes
+    pub fn kept(&self) -> UnmodelledRegisters
         ensures { result ≡ kept_of self.now }
     {
         self.kept
@@ -74,7 +74,7 @@ impl LoggedDriver {
 
     /// Enters a step that is done: its answer, after how many bits, and what is kept after it.
     #[inline(always)]
-    pub fn enter(&mut self, answer: StepAnswer, bits: u64, kept: KeptBytes)
+    pub fn enter(&mut self, answer: StepAnswer, bits: u64, kept: UnmodelledRegisters)
         requires { length (done_in (log_of self.old)) < done_room (log_of self.old) }
         ensures done { done_in (log_of self.new)
             ≡ done_in (log_of self.old) ++ record { answer = answer; bits = bits } ∷ [] }

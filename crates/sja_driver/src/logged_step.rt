@@ -1,9 +1,9 @@
 //! One step of a script at the right one of a node's links, with its answer.
 
 ghost use Rattle.std.specs.Prelude.{◌≢◌};
-ghost use Rattle.sja_link.specs.Lists.{OthersStand};
+ghost use Rattle.sja_journal.specs.Lists.{OthersStand};
 ghost use Rattle.sja_regs.specs.declared.registers.Registers.{Registers};
-ghost use Rattle.sja_script.specs.declared.step.Step.TheVariants.{Stop, Window, Release};
+ghost use Rattle.sja_steps.specs.declared.step.Step.TheVariants.{Stop, Window, Release};
 ghost use Rattle.sja_driver.specs.Acting.{ActsOn};
 ghost use Rattle.sja_driver.specs.AnyDrivers.{link_used};
 ghost use Rattle.sja_driver.specs.Inside.Attempts.{FitsEnd, tried_of};
@@ -19,7 +19,7 @@ use super::logged_driver::LoggedDriver;
 use super::register_steps::{interrupt_step, read_step, write_step};
 use sja_link::DriverEnd;
 use sja_regs::Port;
-use sja_script::{Step, StepAnswer};
+use sja_steps::{Step, StepAnswer};
 
 impl LoggedDriver {
     /// Tries a step at the link of the present activation, and logs what came of it. It gives the step's answer; none

@@ -1,7 +1,7 @@
 //! A look at the messages that have come, which is no step: the log has nothing of it.
 
 ghost use Rattle.std.specs.Prelude.{◌≡◌, None};
-ghost use Rattle.sja_link.specs.Lists.{OthersStand};
+ghost use Rattle.sja_journal.specs.Lists.{OthersStand};
 ghost use Rattle.sja_driver.specs.AnyDrivers.{link_used, seen_by};
 ghost use Rattle.sja_driver.specs.Inside.Attempts.{FitsEnd};
 ghost use Rattle.sja_driver.specs.LoggedDrivers.{driver_of, StaysLawful};

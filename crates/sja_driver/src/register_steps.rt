@@ -1,7 +1,7 @@
 //! Steps that either state has: a register is read or written, or the interrupt line is waited for.
 
-ghost use Rattle.sja_link.specs.Lists.{OthersStand};
-ghost use Rattle.sja_script.specs.declared.step.Step.TheVariants.{Read, Write, Interrupt};
+ghost use Rattle.sja_journal.specs.Lists.{OthersStand};
+ghost use Rattle.sja_steps.specs.declared.step.Step.TheVariants.{Read, Write, Interrupt};
 ghost use Rattle.sja_driver.specs.Acting.{ActsOn};
 ghost use Rattle.sja_driver.specs.AnyDrivers.{link_used};
 ghost use Rattle.sja_driver.specs.Inside.Attempts.{FitsEnd, tried_of};
@@ -12,7 +12,7 @@ use super::attempt::{Attempt, passed, refused};
 use super::observing::observe;
 use sja_link::DriverEnd;
 use sja_regs::Port;
-use sja_script::Refusal;
+use sja_steps::Refusal;
 
 /// Tries a read. Out of reset all that the link shows is taken in first.
 #[inline(always)]

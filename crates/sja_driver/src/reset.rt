@@ -2,9 +2,9 @@
 
 ghost use Rattle.std.specs.Prelude.{◌≡◌, ◌⊎◌, ◌+◌, ◌<◌, ◌≤◌, [], ◌∷◌, false, nat_le};
 ghost use Rattle.std.specs.Prelude.{OnOk, OnErr, IfOk, IfErr};
-ghost use Rattle.sja_link.specs.Lists.{on, OthersStand};
-ghost use Rattle.sja_link.specs.Sizes.{most_activations};
-ghost use Rattle.sja_link.specs.declared.up.Up.TheVariants.{Start};
+ghost use Rattle.sja_journal.specs.Lists.{on, OthersStand};
+ghost use Rattle.sja_journal.specs.Sizes.{most_activations};
+ghost use Rattle.sja_journal.specs.declared.up.Up.TheVariants.{Start};
 ghost use Rattle.sja_regs.specs.Addresses.{register_at};
 ghost use Rattle.sja_regs.specs.Reading.{value_at, after_reading_at, or_no_register};
 ghost use Rattle.sja_regs.specs.Registers.{config_of};
@@ -18,7 +18,8 @@ use super::active::Active;
 use super::driver::Driver;
 use super::start_fault::StartFault;
 use can_frame::BufferView;
-use sja_link::{DriverEnd, DriverLedger, LinkId, Up, most_activations};
+use sja_journal::{Up, most_activations};
+use sja_link::{DriverEnd, DriverLedger, LinkId};
 use sja_regs::{Port, RegFault};
 
 /// The state of a driver whose controller it keeps in reset mode: how many activations it has started.

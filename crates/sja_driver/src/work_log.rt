@@ -1,7 +1,7 @@
 //! The log of a driver that follows a script.
 
 ghost use Rattle.std.specs.Prelude.{◌≡◌, ◌+◌, ◌<◌, ◌++◌, [], ◌∷◌, length, None, IfSome, IfOk, OnOk, OnErr};
-ghost use Rattle.sja_link.specs.Recents.{KeepsAll, IsLast};
+ghost use Rattle.sja_journal.specs.BoundedHistories.{KeepsAll, IsLast};
 ghost use Rattle.sja_driver.specs.Logs.{done_in, releases_in, left_in, done_room, release_room, left_room};
 ghost use Rattle.sja_driver.specs.Logs.{IsEmpty, IsMadeFor, HasRoom};
 ghost use Rattle.sja_driver.specs.Inside.Entering.{Enters, IsAmong};
@@ -10,35 +10,36 @@ ghost use Rattle.sja_driver.specs.Inside.Attempts.{tried_of, stopped_by};
 use super::attempt::Attempt;
 use super::release::Release;
 use can_frame::OutOfMemory;
-use sja_link::{DriverLedger, Endless, Recent, most_activations};
-use sja_script::{Done, StepAnswer};
+use sja_journal::{BoundedHistory, Endless, most_activations};
+use sja_link::DriverLedger;
+use sja_steps::{StepAnswer, StepRecord};
 use std::alloc::Global;
 
 /// What a driver did: its steps done, the messages that it released, and the ledger of each activation that ended
 /// (this project's own rule).
 ///
-/// All its room is made beforehand, so no step takes memory. Where that is for more than [`KEPT`](sja_link::KEPT) of a
-/// kind, it keeps the latest ones. Contracts see them all.
+/// All its room is made beforehand, so no step takes memory. Where that is for more than
+/// [`HISTORY_LIMIT`](sja_journal::HISTORY_LIMIT) of a kind, it keeps the latest ones. Contracts see them all.
 #[derive(Debug, Drop)]
 pub struct WorkLog {
-    pub(crate) done: Recent<Done>,
-    pub(crate) released: Recent<Release>,
-    pub(crate) left: Recent<DriverLedger>,
+    pub(crate) done: BoundedHistory<StepRecord>,
+    pub(crate) released: BoundedHistory<Release>,
+    pub(crate) left: BoundedHistory<DriverLedger>,
 }
 
 impl WorkLog {
-    /// An empty log with room for so many steps, for what so many deeds come to, and for all activations of a node in
-    /// this version: 1 to 3, or [`WITHOUT_END`](sja_link::WITHOUT_END).
+    /// An empty log with room for so many steps, for what so many acts come to, and for all activations of a node in
+    /// this version: 1 to 3, or [`WITHOUT_END`](sja_journal::WITHOUT_END).
     ///
     /// Error: [`OutOfMemory`] where memory was refused.
-    pub fn new(alloc: Global, version: u8, steps: u64, deeds: u64) -> Result<WorkLog, OutOfMemory>
+    pub fn new(alloc: Global, version: u8, steps: u64, acts: u64) -> Result<WorkLog, OutOfMemory>
         ensures empty { IfOk result IsEmpty }
-        ensures made { IfOk result (IsMadeFor version steps deeds) }
-        ensures room { IfOk result (HasRoom version deeds) }
+        ensures made { IfOk result (IsMadeFor version steps acts) }
+        ensures room { IfOk result (HasRoom version acts) }
     {
-        let done = Recent::new(alloc, steps as usize)?;
-        let released = Recent::new(alloc, deeds as usize)?;
-        let left = Recent::new(alloc, most_activations(version) as usize)?;
+        let done = BoundedHistory::new(alloc, steps as usize)?;
+        let released = BoundedHistory::new(alloc, acts as usize)?;
+        let left = BoundedHistory::new(alloc, most_activations(version) as usize)?;
         Ok(WorkLog {
             done,
             released,
@@ -48,8 +49,8 @@ impl WorkLog {
 
     /// The steps that were done, in order.
     ///
-    /// Error: [`Endless`] where it was made for more of them than [`KEPT`](sja_link::KEPT).
-    pub fn done(&self) -> Result<&[Done], Endless>
+    /// Error: [`Endless`] where it was made for more of them than [`HISTORY_LIMIT`](sja_journal::HISTORY_LIMIT).
+    pub fn done(&self) -> Result<&[StepRecord], Endless>
         ensures done { IfOk result (λ s. s.now ≡ done_in self.now) }
         ensures kept { OnOk result (KeepsAll (done_room self.now)) }
         ensures endless { OnErr result (KeepsAll (done_room self.now) → ⊥) }
@@ -65,7 +66,7 @@ impl WorkLog {
     }
 
     /// The step that was done last, if any was.
-    pub fn last_done(&self) -> Option<&Done>
+    pub fn last_done(&self) -> Option<&StepRecord>
         ensures none { result ≡ None → done_in self.now ≡ [] }
         ensures last { IfSome result (λ x. IsLast (done_in self.now) x.now) }
     {
@@ -74,7 +75,7 @@ impl WorkLog {
 
     /// The messages that were released, in order.
     ///
-    /// Error: [`Endless`] where it was made for more of them than [`KEPT`](sja_link::KEPT).
+    /// Error: [`Endless`] where it was made for more of them than [`HISTORY_LIMIT`](sja_journal::HISTORY_LIMIT).
     pub fn released(&self) -> Result<&[Release], Endless>
         ensures released { IfOk result (λ s. s.now ≡ releases_in self.now) }
         ensures kept { OnOk result (KeepsAll (release_room self.now)) }
@@ -85,7 +86,7 @@ impl WorkLog {
 
     /// The ledger of each activation that ended, in order: what it held then is unread.
     ///
-    /// Error: [`Endless`] where it was made for more of them than [`KEPT`](sja_link::KEPT).
+    /// Error: [`Endless`] where it was made for more of them than [`HISTORY_LIMIT`](sja_journal::HISTORY_LIMIT).
     pub fn left(&self) -> Result<&[DriverLedger], Endless>
         ensures left { IfOk result (λ s. s.now ≡ left_in self.now) }
         ensures kept { OnOk result (KeepsAll (left_room self.now)) }
@@ -152,6 +153,6 @@ impl WorkLog {
         ensures room { done_room self.new ≡ done_room self.old }
         ensures rest { self.new ≡ record self.old { done = self.new.done } }
     {
-        self.done.push(Done { answer, bits });
+        self.done.push(StepRecord { answer, bits });
     }
 }

@@ -9,7 +9,7 @@ ghost use Rattle.sja_driver.specs.CommandWrites.{command_steps};
 ghost use Rattle.sja_driver.specs.ModeWrites.{mode_steps};
 ghost use Rattle.sja_driver.specs.WriteLists.{ArePrompt, steps_in};
 ghost use Rattle.sja_driver.specs.Writes.{write_steps};
-ghost use Rattle.sja_script.specs.declared.step.Step.TheVariants.{Start, Stop, Write};
+ghost use Rattle.sja_steps.specs.declared.step.Step.TheVariants.{Start, Stop, Write};
 
 use super::command_steps::written_command;
 use super::in_reset::{is_out, is_reset};
@@ -17,7 +17,7 @@ use super::logged_driver::LoggedDriver;
 use super::mode_write::{is_other_mode, is_written, mode_in, reset_byte};
 use sja_regs::address::{CMR, MOD};
 use sja_regs::{Mode, Port};
-use sja_script::Step;
+use sja_steps::Step;
 
 /// The steps of a typed driver that a write is, at most three, in the order of the fields: an empty field is no step
 /// (this project's own rule). A write of one step has it in `third`. None of them waits.

@@ -8,20 +8,20 @@ ghost use Rattle.sja_driver.specs.Written.{written_at, written_then};
 
 use super::address::{BTR0, BTR1, OCR, RBSA};
 use super::in_reset::is_reset;
-use super::kept_bytes::KeptBytes;
+use super::unmodelled_registers::UnmodelledRegisters;
 use sja_regs::address::CMR;
 use sja_regs::letters::TR;
 use sja_regs::{Command, Port, RegFault};
-use sja_script::{Ignored, Refusal, StepAnswer};
+use sja_steps::{Ignored, Refusal, StepAnswer};
 
 /// CMR with TR alone.
 const TRANSMIT: u8 = 1 << TR;
 
-/// A write of a driver that knows addresses and bytes alone, as far as its deeds were done.
+/// A write of a driver that knows addresses and bytes alone, as far as its acts were done.
 #[derive(Clone, Copy, Debug, PartialEq, Eq)]
 pub struct Written {
     /// What is kept for the driver then.
-    pub kept: KeptBytes,
+    pub kept: UnmodelledRegisters,
     /// Why the controller ignored the write, if that is known.
     pub ignored: Option<Ignored>,
 }
@@ -29,7 +29,7 @@ pub struct Written {
 impl Written {
     /// As it begins: by the registers that it finds, and by what is kept for the driver.
     #[inline(always)]
-    pub fn begin(port: &Port, kept: KeptBytes, address: u8, value: u8) -> Written
+    pub fn begin(port: &Port, kept: UnmodelledRegisters, address: u8, value: u8) -> Written
         ensures { result ≡ written_at port.now kept address value }
     {
         let mut kept = kept;
@@ -43,7 +43,7 @@ impl Written {
         Written { kept, ignored }
     }
 
-    /// Goes on past a deed that answered so.
+    /// Goes on past an act that answered so.
     #[inline(always)]
     pub fn answered(&mut self, answer: &StepAnswer)
         ensures { self.new ≡ written_then self.old answer.now }
@@ -83,7 +83,7 @@ fn command_ignored(port: &Port, value: u8) -> Option<Ignored>
     }
 }
 
-/// Why a write is ignored of which a deed answered so, if it is by that.
+/// Why a write is ignored of which an act answered so, if it is by that.
 #[inline(always)]
 fn answer_ignored(answer: &StepAnswer) -> Option<Ignored>
     ensures { result ≡ ignored_by_answer answer.now }
@@ -94,7 +94,7 @@ fn answer_ignored(answer: &StepAnswer) -> Option<Ignored>
     }
 }
 
-/// Why a write is ignored of which a deed was refused so.
+/// Why a write is ignored of which an act was refused so.
 fn refusal_ignored(refusal: Refusal) -> Option<Ignored>
     ensures { result ≡ ignored_for refusal }
 {

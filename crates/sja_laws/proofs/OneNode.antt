@@ -1,7 +1,7 @@
 pub mod OnePort
 pub mod OneTurn
 pub mod OneAnswer
-pub mod OneAccess
+pub mod OneStepRun
 pub mod OneVerdict
 pub mod OneBit
 pub mod Onward

@@ -1,3 +1,3 @@
 pub mod Promised
-pub mod GoingOn
+pub mod LongerJournals
 pub mod Rounds

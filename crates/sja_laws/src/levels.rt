@@ -1,13 +1,13 @@
 //! Laws of the levels on the bus.
 
 ghost use Rattle.std.specs.Prelude.{◌≡◌, ◌<◌, ℕ, List, length};
-ghost use Rattle.can_bits.specs.declared.level.Level.{Level};
-ghost use Rattle.can_node.specs.Cut.{FinishedPiece, IsCut};
-ghost use Rattle.can_node.specs.NextBit.{DrivesIn};
-ghost use Rattle.can_node.specs.Record.{RecordEntry};
-ghost use Rattle.sja_link.specs.declared.entry.Entry.{Entry};
-ghost use Rattle.sja_script.specs.declared.strike.Strike.{Strike};
-ghost use Rattle.sja_wire.specs.Wire.{IsWired, bit_at, journal_at};
+ghost use Rattle.can_levels.specs.declared.level.Level.{Level};
+ghost use Rattle.can_node_rules.specs.Cut.{FinishedPiece, IsCut};
+ghost use Rattle.can_node_rules.specs.NextBit.{DrivesIn};
+ghost use Rattle.can_node_rules.specs.Record.{RecordEntry};
+ghost use Rattle.sja_journal.specs.declared.entry.Entry.{Entry};
+ghost use Rattle.sja_steps.specs.declared.strike.Strike.{Strike};
+ghost use Rattle.sja_bus_rules.specs.Wire.{IsWired, bit_at, journal_at};
 
 /// A law: the level that a node drives next is a function of its record.
 pub fn a_record_drives_one_level()

@@ -3,7 +3,7 @@
 ghost use Rattle.std.specs.Prelude.{◌≡◌, Ok, IfOk, Result};
 ghost use Rattle.sja_plan.specs.Plan.{PlanValue};
 ghost use Rattle.sja_log.specs.Log.{RunValue};
-ghost use Rattle.sja_log.specs.Runs.{IsSerialRun};
+ghost use Rattle.sja_promises.specs.Runs.{IsSerialRun};
 ghost use Rattle.sja_log.specs.declared.run_fault.RunFault.{RunFault};
 ghost use Rattle.sja_session.specs.declared.no_plan.NoPlan.{NoPlan};
 

@@ -1,7 +1,7 @@
 //! Laws of how many bits `rest`, `irq` and a round of `go` run.
 
 ghost use Rattle.std.specs.Prelude.{◌≡◌, ◌+◌, ◌<◌, ◌≤◌, ◌⊎◌, ℕ};
-ghost use Rattle.sja_log.specs.Turns.{Acts, AllAtRest, AllDo, IsLineDown, IsLineUp, NoneLeft, Progress, SomeLeft};
+ghost use Rattle.sja_promises.specs.Turns.{Acts, AllAtRest, AllDo, IsLineDown, IsLineUp, NoneLeft, Progress, SomeLeft};
 
 /// A law: `rest` runs one number of bits, the least one after which every controller is at rest.
 pub fn rest_runs_one_number_of_bits()

@@ -3,7 +3,7 @@
 ghost use Rattle.std.specs.Prelude.{◌≡◌, ℕ, List};
 ghost use Rattle.sja_plan.specs.Plan.{PlanValue};
 ghost use Rattle.sja_log.specs.Log.{RunValue};
-ghost use Rattle.sja_log.specs.Runs.{IsSerialRun};
+ghost use Rattle.sja_promises.specs.Runs.{IsSerialRun};
 ghost use Rattle.sja_sweep.specs.declared.sweeping.Sweeping.{Sweeping};
 ghost use Rattle.sja_sweep.specs.Errors.{IsRan, TrialRunValue};
 ghost use Rattle.sja_sweep.specs.Sweeps.{IsSweep};

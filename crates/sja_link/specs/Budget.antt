@@ -1,7 +1,7 @@
 -- What holds of every world of one link (this project's own rule).
 use Rattle.std.specs.Prelude.{◌≡◌, ◌+◌, ◌≤◌, List, ◌++◌, length}
-use Rattle.sja_link.specs.declared.down.Down.{Down}
-use Rattle.sja_link.specs.declared.up.Up.{Up}
+use Rattle.sja_journal.specs.declared.down.Down.{Down}
+use Rattle.sja_journal.specs.declared.up.Up.{Up}
 use Rattle.sja_link.specs.World.{WorldValue, free, held, way}
 
 pub record IsBudget (w : WorldValue) : Type 0 where

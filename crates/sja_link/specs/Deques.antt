@@ -3,11 +3,11 @@
 use Rattle.std.specs.Prelude.{◌≡◌, ◌≢◌, ◌⊎◌, ◌<◌, ◌≤◌, ◌+◌, ◌-◌, ◌*◌, ◌==◌, ℕ, suc, if◌then◌else◌, Some, None}
 use Rattle.std.specs.Prelude.{List, [], ◌∷◌, ◌++◌, length, map, min}
 use Rattle.std.specs.List.{filter_map}
-use Rattle.sja_link.specs.declared.down.Down.{Down}
-use Rattle.sja_link.specs.declared.up.Up.{Up}
+use Rattle.sja_journal.specs.declared.down.Down.{Down}
+use Rattle.sja_journal.specs.declared.up.Up.{Up}
 use Rattle.sja_link.specs.declared.older_down.OlderDown.{OlderDown}
-use Rattle.sja_link.specs.Lists.{Lists, nothing_yet}
-use Rattle.sja_link.specs.Recents.{KeepsAll}
+use Rattle.sja_journal.specs.Lists.{Lists, nothing_yet}
+use Rattle.sja_journal.specs.BoundedHistories.{KeepsAll}
 
 -- ---- one link
 

@@ -1,34 +1,23 @@
-pub mod NodeWords
-pub mod Sizes
-pub mod Lists
 pub mod Deques
-pub mod Places
-pub mod Parts
-pub mod Carried
-pub mod Accounts
-pub mod Records
-pub mod Free
-pub mod Judged
-pub mod Verdicts
 pub mod BusLedgers
 pub mod DriverLedgers
 pub mod Looking
 pub mod Showing
-pub mod Between
-pub mod Recents
-pub mod Written
-pub mod RestBits
 pub mod World
 pub mod WorldEvents
 pub mod Budget
 -- ---- the links of a node, and what the bus enters in its journal, item by item and bit by bit
-pub mod Links
 pub mod NewLinks
-pub mod Opening
-pub mod OutOfOrder
-pub mod Aborting
 pub mod Orderly
-pub mod BitEntries
-pub mod Activations
+pub mod Moving
 -- ---- how the code keeps a journal and its ledgers: definitions of the private contracts alone
 pub mod Inside
+
+-- ---- the face: the lemmas that proofs of other crates cite
+-- face: proofs.Growing.Moving.{goes_one, goes_quiet, goes_trans, moves_push, moves_quiet, moves_trans}
+-- face: proofs.Growing.Ordered.{acts_in, no_off_put}
+-- face: proofs.JournalEntries.ListCounts.{credits_both, messages_both}
+-- face: proofs.Ledger.Holding.{told_stored}
+-- face: proofs.Ledger.Pullings.{off_both, off_stays}
+-- face: proofs.QueuedLinks.Ends.{ends}
+-- face: proofs.QueuedLinks.Left.{left_both, left_else, left_here}

@@ -1,12 +1,12 @@
 -- What the driver's ledger does at its end (this project's own rule).
 use Rattle.std.specs.Prelude.{◌≡◌, ◌⊎◌, ◌≤◌, ℕ, Bool, true, false, List, [], ◌∷◌, ◌++◌, length}
 use Rattle.std.specs.Prelude.{Result, Err, OnOk, OnErr, IfOk}
-use Rattle.sja_link.specs.declared.down.Down.{Down}
-use Rattle.sja_link.specs.declared.down.Down.TheVariants.{Message, Off}
+use Rattle.sja_journal.specs.declared.down.Down.{Down}
+use Rattle.sja_journal.specs.declared.down.Down.TheVariants.{Message, Off}
 use Rattle.sja_link.specs.declared.release_fault.ReleaseFault.{ReleaseFault}
 use Rattle.sja_link.specs.declared.release_fault.ReleaseFault.TheVariants.{Stopped, Empty, Busy}
-use Rattle.sja_link.specs.declared.up.Up.TheVariants.{Credit}
-use Rattle.sja_link.specs.Lists.{Lists, with_given, messages}
+use Rattle.sja_journal.specs.declared.up.Up.TheVariants.{Credit}
+use Rattle.sja_journal.specs.Lists.{Lists, with_given, messages}
 
 -- with several items got
 abbrev pub with_gots : Lists → List Down → Lists

@@ -1,12 +1,12 @@
 -- The order of what the bus enters in the part of an activation (this project's own rule).
 use Rattle.std.specs.Prelude.{◌≡◌, ◌≢◌, ◌≤◌, ◌+◌, ℕ, List, [], length}
-use Rattle.sja_link.specs.declared.up.Up.TheVariants.{Start, Credit, Send, Stop}
-use Rattle.sja_link.specs.declared.entry.Entry.{Entry}
-use Rattle.sja_link.specs.declared.entry.Entry.TheVariants.{Bit, Up as Item, Abort, Stored, Overrun, Off}
+use Rattle.sja_journal.specs.declared.up.Up.TheVariants.{Start, Credit, Send, Stop}
+use Rattle.sja_journal.specs.declared.entry.Entry.{Entry}
+use Rattle.sja_journal.specs.declared.entry.Entry.TheVariants.{Bit, Up as Item, Abort, Stored, Overrun, Off}
 use Rattle.lemmas.specs.Gathering.{total}
-use Rattle.sja_link.specs.Carried.{put_of, taken_of}
-use Rattle.sja_link.specs.Free.{credit_in, bytes_in, free_of}
-use Rattle.sja_link.specs.Parts.{part}
+use Rattle.sja_journal.specs.Carried.{put_of, taken_of}
+use Rattle.sja_journal.specs.Free.{credit_in, bytes_in, free_of}
+use Rattle.sja_journal.specs.Parts.{part}
 use Rattle.lemmas.specs.Picking.{EachAfter}
 use Rattle.sja_link.specs.World.{is_off, is_start, is_stop}
 

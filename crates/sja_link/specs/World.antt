@@ -1,12 +1,12 @@
 -- The world of one link: what its two ends did (this project's own rule).
 use Rattle.std.specs.Prelude.{◌+◌, ◌-◌, ℕ, Bool, true, List, [], ◌∷◌, length, drop}
-use Rattle.sja_link.specs.declared.down.Down.{Down}
-use Rattle.sja_link.specs.declared.down.Down.TheVariants.{Message, Off as OffDown}
-use Rattle.sja_link.specs.declared.up.Up.{Up}
-use Rattle.sja_link.specs.declared.up.Up.TheVariants.{Start as StartUp, Credit, Send as SendUp, Stop as StopUp}
+use Rattle.sja_journal.specs.declared.down.Down.{Down}
+use Rattle.sja_journal.specs.declared.down.Down.TheVariants.{Message, Off as OffDown}
+use Rattle.sja_journal.specs.declared.up.Up.{Up}
+use Rattle.sja_journal.specs.declared.up.Up.TheVariants.{Start as StartUp, Credit, Send as SendUp, Stop as StopUp}
 use Rattle.lemmas.specs.Gathering.{total}
-use Rattle.sja_link.specs.Lists.{Lists, nothing_yet, messages}
-use Rattle.sja_link.specs.Free.{credit_of}
+use Rattle.sja_journal.specs.Lists.{Lists, nothing_yet, messages}
+use Rattle.sja_journal.specs.Free.{credit_of}
 
 -- the four lists of the link, and the word "may send"
 pub record WorldValue : Type 0 where

@@ -3,13 +3,13 @@ use Rattle.std.specs.Prelude.{◌≡◌, ◌≢◌, ◌↔◌, ◌≤◌, ◌<�
 use Rattle.std.specs.Prelude.{Result, IfOk, OnErr, List, [], ◌∷◌, ◌++◌, ℕ, length, take, drop}
 use Rattle.can_frame.specs.declared.out_of_memory.OutOfMemory.{OutOfMemory}
 use Rattle.can_frame.specs.Message.{IsMessage}
-use Rattle.sja_link.specs.declared.down.Down.TheVariants.{Message, Off as OffDown}
-use Rattle.sja_link.specs.declared.up.Up.{Up}
-use Rattle.sja_link.specs.declared.up.Up.TheVariants.{Start as StartUp, Credit, Send as SendUp, Stop as StopUp}
+use Rattle.sja_journal.specs.declared.down.Down.TheVariants.{Message, Off as OffDown}
+use Rattle.sja_journal.specs.declared.up.Up.{Up}
+use Rattle.sja_journal.specs.declared.up.Up.TheVariants.{Start as StartUp, Credit, Send as SendUp, Stop as StopUp}
 use Rattle.sja_link.specs.declared.event.Event.{Event}
 use Rattle.sja_link.specs.declared.event.Event.TheVariants.{Start, Put, Off, Get, Release, Send, SendDone, Stop, Take}
 use Rattle.lemmas.specs.Gathering.{total}
-use Rattle.sja_link.specs.Lists.{with_put, with_given}
+use Rattle.sja_journal.specs.Lists.{with_put, with_given}
 use Rattle.sja_link.specs.World.{WorldValue, new_world, is_off, is_start, is_send, is_stop, free, unreleased, on_way}
 
 -- the bus may put: the start was taken, no stop was, and bus-off wasn't put

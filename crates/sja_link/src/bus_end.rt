@@ -1,10 +1,9 @@
 //! The bus's end of a node's links.
 
 ghost use Rattle.std.specs.Prelude.{◌≡◌, ◌≤◌, ℕ, IfErr, IfSome, OnOk, OnErr, IfNone};
-ghost use Rattle.sja_link.specs.Lists.{Lists, with_put, with_taken, OthersStand, Carries, Keeps};
+ghost use Rattle.sja_journal.specs.Lists.{Lists, with_put, with_taken, OthersStand, Carries, Keeps};
 
-use super::down::Down;
-use super::up::Up;
+use sja_journal::{Down, Up};
 
 /// The bus's end of a node's links, one for each activation, counted from 1.
 ///

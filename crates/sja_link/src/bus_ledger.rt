@@ -5,12 +5,9 @@ ghost use Rattle.std.specs.Prelude.{◌≤◌};
 use super::bad_credit::BadCredit;
 use super::bus_end::BusEnd;
 use super::busy::Busy;
-use super::down::Down;
 use super::link_id::LinkId;
-use super::sizes::RECEIVE_FIFO;
-use super::up::Up;
-use super::verdict::Verdict;
 use can_frame::Message;
+use sja_journal::{Down, RECEIVE_FIFO, Up, Verdict};
 
 /// The bus's account of one activation: the bytes that are free in the receive buffer, 0 to 64.
 ///
@@ -27,15 +24,15 @@ pub struct BusLedger {
 impl BusLedger {
     ghost use Rattle.std.specs.Prelude.{◌≡◌, ◌≢◌, ℕ, List, [], ◌∷◌, ◌++◌, ◌+◌, ◌<◌, ◌≤◌, ◌⊎◌};
     ghost use Rattle.std.specs.Prelude.{length, Ok, OnOk, OnErr, IfOk, IfErr, IfSome, IfNone};
-    ghost use Rattle.sja_link.specs.declared.down.Down.TheVariants.{Off as OffDown};
-    ghost use Rattle.sja_link.specs.declared.up.Up.TheVariants.{Credit};
-    ghost use Rattle.sja_link.specs.declared.verdict.Verdict.TheVariants.{Stored, Overrun};
-    ghost use Rattle.sja_link.specs.declared.entry.Entry.{Entry};
-    ghost use Rattle.sja_link.specs.declared.entry.Entry.TheVariants.{Up as Item};
-    ghost use Rattle.sja_link.specs.Lists.{with_put, with_taken, OthersStand, Carries, Keeps};
-    ghost use Rattle.sja_link.specs.Accounts.{with_entry};
-    ghost use Rattle.sja_link.specs.Free.{IsFree};
-    ghost use Rattle.sja_link.specs.Verdicts.{IsFair, entry_of};
+    ghost use Rattle.sja_journal.specs.declared.down.Down.TheVariants.{Off as OffDown};
+    ghost use Rattle.sja_journal.specs.declared.up.Up.TheVariants.{Credit};
+    ghost use Rattle.sja_journal.specs.declared.verdict.Verdict.TheVariants.{Stored, Overrun};
+    ghost use Rattle.sja_journal.specs.declared.entry.Entry.{Entry};
+    ghost use Rattle.sja_journal.specs.declared.entry.Entry.TheVariants.{Up as Item};
+    ghost use Rattle.sja_journal.specs.Lists.{with_put, with_taken, OthersStand, Carries, Keeps};
+    ghost use Rattle.sja_journal.specs.Accounts.{with_entry};
+    ghost use Rattle.sja_journal.specs.Free.{IsFree};
+    ghost use Rattle.sja_journal.specs.Verdicts.{IsFair, entry_of};
     ghost use Rattle.sja_link.specs.BusLedgers.{link_of, activation_of, free_in};
 
     /// The ledger of an activation that begins: all 64 bytes are free.

@@ -2,14 +2,13 @@
 
 ghost use Rattle.std.specs.Prelude.{◌≡◌, ◌≢◌, true, false, [], ◌∷◌, drop, IfSome, IfNone};
 ghost use Rattle.lemmas.specs.Gathering.{total};
-ghost use Rattle.sja_link.specs.Free.{credit_of};
-ghost use Rattle.sja_link.specs.declared.up.Up.TheVariants.{Credit};
-ghost use Rattle.sja_link.specs.Lists.{messages};
+ghost use Rattle.sja_journal.specs.Free.{credit_of};
+ghost use Rattle.sja_journal.specs.declared.up.Up.TheVariants.{Credit};
+ghost use Rattle.sja_journal.specs.Lists.{messages};
 ghost use Rattle.sja_link.specs.WorldEvents.{first_credit};
 ghost use Rattle.sja_link.specs.World.{is_off, is_start, is_send, is_stop};
 
-use super::down::Down;
-use super::up::Up;
+use sja_journal::{Down, Up};
 
 /// The bytes that an item gives back.
 pub(crate) fn credit_of(item: &Up) -> u8

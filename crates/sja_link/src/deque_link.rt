@@ -4,10 +4,8 @@ ghost use Rattle.std.specs.Prelude.{◌≡◌, ◌≢◌, ◌++◌, ◌∷◌, [
 ghost use Rattle.std.specs.Prelude.{OnErr};
 ghost use Rattle.sja_link.specs.Deques.{nothing_lies};
 
-use super::down::Down;
-use super::sizes::{ITEMS_DOWN, ITEMS_UP};
-use super::up::Up;
 use can_frame::OutOfMemory;
+use sja_journal::{Down, ITEMS_DOWN, ITEMS_UP, Up};
 use std::alloc::Global;
 use std::collections::VecDeque;
 use std::marker::Model;

@@ -8,14 +8,10 @@ ghost use Rattle.sja_link.specs.NewLinks.{new_links};
 
 use super::bus_end::BusEnd;
 use super::deque_link::DequeLink;
-use super::down::Down;
 use super::driver_end::DriverEnd;
-use super::endless::Endless;
 use super::older_down::OlderDown;
-use super::recent::Recent;
-use super::sizes::{ACTIVATIONS, ITEMS_DOWN};
-use super::up::Up;
 use can_frame::OutOfMemory;
+use sja_journal::{ACTIVATIONS, BoundedHistory, Down, Endless, ITEMS_DOWN, Up};
 use std::alloc::Global;
 use std::collections::VecDeque;
 use std::marker::Model;
@@ -35,7 +31,7 @@ pub struct DequeLinks {
     node: u8,
     first: u64,
     others: VecDeque<DequeLink>,
-    older: Recent<OlderDown>,
+    older: BoundedHistory<OlderDown>,
     starts: u64,
 }
 
@@ -75,7 +71,7 @@ impl DequeLinks {
             others.push_back_reserved(DequeLink::new(alloc)?);
         }
         let here = DequeLink::new(alloc)?;
-        let older = Recent::new(alloc, ITEMS_DOWN * (starts - many) as usize)?;
+        let older = BoundedHistory::new(alloc, ITEMS_DOWN * (starts - many) as usize)?;
         Ok(DequeLinks {
             at: starts.min(1),
             here,
@@ -120,7 +116,8 @@ impl DequeLinks {
 
     /// What was left downward on the links that have no queues any more, oldest first.
     ///
-    /// Error: [`Endless`] where there are so many links that more items than [`KEPT`](super::KEPT) may be left there:
+    /// Error: [`Endless`] where there are so many links that more items than [`HISTORY_LIMIT`](super::HISTORY_LIMIT)
+    /// may be left there:
     /// 22 on each but those that have queues.
     pub fn older(&self) -> Result<&[OlderDown], Endless>
         ensures older { IfOk result (λ s. s.now ≡ self.now.older) }

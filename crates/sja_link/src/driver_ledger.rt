@@ -1,14 +1,12 @@
 //! The driver's ledger of one activation.
 
-use super::down::Down;
 use super::driver_end::DriverEnd;
 use super::link_id::LinkId;
 use super::lost_window::LostWindow;
 use super::release_fault::ReleaseFault;
-use super::sizes::ITEMS_DOWN;
-use super::up::Up;
 use arrayvec::ArrayVec;
 use can_frame::{BufferView, Message};
+use sja_journal::{Down, ITEMS_DOWN, Up};
 
 /// The driver's account of one activation: the messages that it got and didn't release, and whether it got bus-off
 /// (SJA1000 data sheet, 6.4.14, receive buffer: the window shows the first message of the FIFO).
@@ -32,7 +30,7 @@ impl DriverLedger {
     ghost use Rattle.sja_link.specs.contracts.driver_ledger.DriverLedger.{the_row};
     ghost use Rattle.sja_link.specs.declared.release_fault.ReleaseFault.TheVariants.{Stopped as FaultStopped};
     ghost use Rattle.sja_link.specs.declared.release_fault.ReleaseFault.TheVariants.{Empty, Busy};
-    ghost use Rattle.sja_link.specs.Lists.{OthersStand, on, is_on, same_on};
+    ghost use Rattle.sja_journal.specs.Lists.{OthersStand, on, is_on, same_on};
     ghost use Rattle.sja_link.specs.DriverLedgers.{link_of, activation_of, held_by, knows_bus_off};
     ghost use Rattle.sja_link.specs.Looking.{Pulls, IsTaken, Releases, Refuses, TriesRelease, one_if};
     ghost use Rattle.sja_link.specs.Showing.{Shows, window_in, seen_of};

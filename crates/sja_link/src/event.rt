@@ -1,7 +1,7 @@
 //! One event of a link.
 
 use can_frame::Message;
-use can_node::{Config, Request};
+use can_node_rules::{Config, Request};
 
 /// What can happen on one link (this project's own rule).
 #[derive(Debug, PartialEq, Eq, Drop)]

@@ -1,14 +1,14 @@
 //! Laws of links and journals.
 
 ghost use Rattle.std.specs.Prelude.{◌≡◌, ℕ, List, ◌++◌};
-ghost use Rattle.sja_link.specs.declared.down.Down.{Down};
-ghost use Rattle.sja_link.specs.declared.entry.Entry.{Entry};
+ghost use Rattle.sja_journal.specs.declared.down.Down.{Down};
+ghost use Rattle.sja_journal.specs.declared.entry.Entry.{Entry};
 ghost use Rattle.sja_link.specs.declared.event.Event.{Event};
-ghost use Rattle.sja_link.specs.Lists.{messages};
-ghost use Rattle.sja_link.specs.Parts.{part};
-ghost use Rattle.sja_link.specs.Carried.{put_of, stored_of};
-ghost use Rattle.sja_link.specs.Accounts.{Account};
-ghost use Rattle.sja_link.specs.Judged.{judged_in, kept};
+ghost use Rattle.sja_journal.specs.Lists.{messages};
+ghost use Rattle.sja_journal.specs.Parts.{part};
+ghost use Rattle.sja_journal.specs.Carried.{put_of, stored_of};
+ghost use Rattle.sja_journal.specs.Accounts.{Account};
+ghost use Rattle.sja_journal.specs.Judged.{judged_in, kept};
 ghost use Rattle.sja_link.specs.Looking.{Holds};
 ghost use Rattle.sja_link.specs.World.{WorldValue};
 ghost use Rattle.sja_link.specs.WorldEvents.{Reached};

@@ -1,6 +1,6 @@
 //! What was left on a link.
 
-use super::down::Down;
+use sja_journal::Down;
 
 /// An item that was left downward on the link of an activation that has ended (this project's own rule).
 #[derive(Debug, PartialEq, Eq, Drop)]

@@ -5,12 +5,10 @@ ghost use Rattle.sja_link.specs.declared.event.Event.TheVariants.{Start, Put, Of
 ghost use Rattle.sja_link.specs.declared.event.Event.TheVariants.{Send, SendDone, Stop, Take};
 
 use super::counts::{credit_at, credit_of, starts, stops, waits, went_off};
-use super::down::Down;
 use super::event::Event;
-use super::sizes::RECEIVE_FIFO;
-use super::up::Up;
 use can_frame::{Message, OutOfMemory};
-use can_node::{Config, Request};
+use can_node_rules::{Config, Request};
+use sja_journal::{Down, RECEIVE_FIFO, Up};
 use std::alloc::Global;
 use std::marker::Model;
 

@@ -14,16 +14,16 @@ use Rattle.sja_live.specs.declared.opening_fault.OpeningFault.{OpeningFault}
 use Rattle.sja_live.specs.declared.opening_fault.OpeningFault.TheVariants.{Long as LongLine, Text as NoLineText}
 use Rattle.sja_live.specs.declared.opening_fault.OpeningFault.TheVariants.{Command as NoLive, Version, Bits as NoBits}
 use Rattle.sja_live.specs.declared.opening_fault.OpeningFault.TheVariants.{Nodes}
-use Rattle.sja_live.specs.declared.shortage.Shortage.{Shortage}
-use Rattle.sja_live.specs.declared.shortage.Shortage.TheVariants.{Steps, Turns, Strikes, Document}
+use Rattle.sja_live.specs.declared.exhausted.Exhausted.{Exhausted}
+use Rattle.sja_live.specs.declared.exhausted.Exhausted.TheVariants.{Steps, Turns, Strikes, Document}
 use Rattle.sja_live.specs.PlaceTexts.{place_text}
-use Rattle.sja_plan.specs.Words.{Text}
-use Rattle.sja_report.specs.ReportLines.{line_text}
-use Rattle.sja_report.specs.ReportWords.{byte_word}
-use Rattle.sja_script.specs.Refusals.{refusal_name}
-use Rattle.sja_script.specs.declared.step_answer.StepAnswer.{StepAnswer}
-use Rattle.sja_script.specs.declared.step_answer.StepAnswer.TheVariants.{Done, NoMessage, Shown, Released, Value}
-use Rattle.sja_script.specs.declared.step_answer.StepAnswer.TheVariants.{Refused, Ignored}
+use Rattle.sja_plan_reading.specs.Words.{Text}
+use Rattle.text_report.specs.ReportLines.{line_text}
+use Rattle.text_report.specs.ReportWords.{byte_word}
+use Rattle.sja_steps.specs.Refusals.{refusal_name}
+use Rattle.sja_steps.specs.declared.step_answer.StepAnswer.{StepAnswer}
+use Rattle.sja_steps.specs.declared.step_answer.StepAnswer.TheVariants.{Done, NoMessage, Shown, Released, Value}
+use Rattle.sja_steps.specs.declared.step_answer.StepAnswer.TheVariants.{Refused, Ignored}
 
 -- what a step answers; a driver isn't told that its write was ignored
 abbrev pub told_words : StepAnswer → List Text
@@ -47,7 +47,7 @@ fault_word PlaceWord = codes "PLACE"
 fault_word Number = codes "NUMBER"
 
 -- what is used up
-abbrev pub used_word : Shortage → Text
+abbrev pub used_word : Exhausted → Text
 used_word Steps = codes "STEPS"
 used_word Turns = codes "TURNS"
 used_word Strikes = codes "STRIKES"

@@ -8,13 +8,13 @@ use Rattle.std.specs.Str.Parse.{digits_value}
 use Rattle.sja_live.specs.declared.live_command.LiveCommand.{LiveCommand}
 use Rattle.sja_live.specs.declared.live_command.LiveCommand.TheVariants.{Step, Read, Write, Run, Rest, Line, Strike}
 use Rattle.sja_live.specs.declared.live_command.LiveCommand.TheVariants.{Answer, Bits, Plan, End, To, PlaceOf}
-use Rattle.sja_plan.specs.Accesses.{SpellsAddress, SpellsValue}
+use Rattle.sja_plan_reading.specs.Accesses.{SpellsAddress, SpellsValue}
 use Rattle.sja_plan.specs.Limits.{most_bits}
 use Rattle.sja_plan.specs.Plan.{PlanValue}
-use Rattle.sja_plan.specs.PlaceNames.{place_of_word, place_of_words}
+use Rattle.sja_plan_reading.specs.PlaceNames.{place_of_word, place_of_words}
 use Rattle.sja_plan.specs.declared.place.Place.{Place}
-use Rattle.sja_plan.specs.StepTexts.{AreStepWords}
-use Rattle.sja_plan.specs.Words.{Text, words, greatest, SpellsWithin, SpellsNode}
+use Rattle.sja_plan_reading.specs.StepTexts.{AreStepWords}
+use Rattle.sja_plan_reading.specs.Words.{Text, words, greatest, SpellsWithin, SpellsNode}
 use Rattle.sja_session.specs.Sessions.{SessionValue}
 
 -- ---- the forms of a line

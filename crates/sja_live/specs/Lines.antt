@@ -1,6 +1,6 @@
 -- The lines of a talk (this project's own rule): what stands before each line feed, and behind the last one.
 use Rattle.std.specs.Prelude.{◌≡◌, ◌==◌, ◌≤◌, ◌++◌, ℕ, false, if◌then◌else◌, List, [], ◌∷◌, length, IsUtf8}
-use Rattle.sja_plan.specs.Words.{Text}
+use Rattle.sja_plan_reading.specs.Words.{Text}
 
 -- the most bytes that a line may have, its line feed not counted
 abbrev pub most_line : ℕ

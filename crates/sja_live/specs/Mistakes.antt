@@ -5,11 +5,11 @@ use Rattle.sja_live.specs.Commands.{IsPlaceLine, IsToLine, SpellsBit, lacks_end}
 use Rattle.sja_live.specs.declared.line_fault.LineFault.{LineFault}
 use Rattle.sja_live.specs.declared.line_fault.LineFault.TheVariants.{Text as NoText, Command, Node, Number}
 use Rattle.sja_live.specs.declared.line_fault.LineFault.TheVariants.{Address, Byte, Step, Place as PlaceWord}
-use Rattle.sja_plan.specs.Accesses.{SpellsAddress, SpellsValue}
-use Rattle.sja_plan.specs.StepTexts.{AreStepWords}
+use Rattle.sja_plan_reading.specs.Accesses.{SpellsAddress, SpellsValue}
+use Rattle.sja_plan_reading.specs.StepTexts.{AreStepWords}
 use Rattle.sja_plan.specs.declared.place.Place.{Place}
-use Rattle.sja_plan.specs.Words.{Text, words, greatest, SpellsWithin, SpellsNode}
-use Rattle.sja_script.specs.declared.step.Step.{Step as StepOf}
+use Rattle.sja_plan_reading.specs.Words.{Text, words, greatest, SpellsWithin, SpellsNode}
+use Rattle.sja_steps.specs.declared.step.Step.{Step as StepOf}
 use Rattle.sja_session.specs.Sessions.{SessionValue}
 
 -- ---- the words of a line

@@ -7,7 +7,7 @@ use Rattle.sja_live.specs.declared.opening_fault.OpeningFault.{OpeningFault}
 use Rattle.sja_live.specs.declared.opening_fault.OpeningFault.TheVariants.{Long, Text as NoText, Command}
 use Rattle.sja_live.specs.declared.opening_fault.OpeningFault.TheVariants.{Version, Bits, Nodes}
 use Rattle.sja_plan.specs.Limits.{most_bits}
-use Rattle.sja_plan.specs.Words.{Text, words, SpellsWithin}
+use Rattle.sja_plan_reading.specs.Words.{Text, words, SpellsWithin}
 
 -- the words of the line
 abbrev pub IsLiveLine : List Text → Text → Text → Text → Type 0

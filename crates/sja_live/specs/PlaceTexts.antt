@@ -1,6 +1,6 @@
 -- How `sja live` writes a place of a frame: by the name that plans have for it (this project's own rule).
 use Rattle.std.specs.Prelude.{◌++◌, codes, decimal}
-use Rattle.sja_plan.specs.Words.{Text}
+use Rattle.sja_plan_reading.specs.Words.{Text}
 use Rattle.sja_plan.specs.declared.place.Place.{Place}
 use Rattle.sja_plan.specs.declared.place.Place.TheVariants.{Sof, Id, Srr, Rtr, Ide, R1, R0, Dlc, Data, Crc}
 use Rattle.sja_plan.specs.declared.place.Place.TheVariants.{CrcDelimiter, Ack, AckDelimiter, Eof, Intermission, Stuff}

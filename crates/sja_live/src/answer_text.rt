@@ -3,19 +3,19 @@
 ghost use Rattle.std.specs.Prelude.{◌≡◌, ◌++◌, [], ◌∷◌, codes, decimal, string_bytes, OnOk};
 ghost use Rattle.hex.specs.Hex.{encode_lower};
 ghost use Rattle.sja_live.specs.AnswerTexts.{answer_text, fault_word, told_words, used_word};
-ghost use Rattle.sja_report.specs.ReportLines.{line_text, words_text};
-ghost use Rattle.sja_report.specs.ReportWords.{byte_word};
-ghost use Rattle.sja_script.specs.Refusals.{refusal_name};
+ghost use Rattle.text_report.specs.ReportLines.{line_text, words_text};
+ghost use Rattle.text_report.specs.ReportWords.{byte_word};
+ghost use Rattle.sja_steps.specs.Refusals.{refusal_name};
 
+use super::exhausted::Exhausted;
 use super::line_fault::LineFault;
 use super::live_answer::LiveAnswer;
 use super::place_text::put_place;
-use super::shortage::Shortage;
 use hex::encode;
-use sja_report::put_answer as put_spaced;
-use sja_script::{Refusal, StepAnswer};
+use sja_steps::{Refusal, StepAnswer};
 use std::alloc::{AllocError, Global};
 use std::fmt::Write;
+use text_report::put_answer as put_spaced;
 
 /// Writes the line of an answer.
 ///
@@ -105,7 +105,7 @@ fn put_fault(text: &mut String, fault: LineFault) -> Result<(), AllocError>
 /// Writes the line of what is used up.
 ///
 /// Error: memory was refused.
-fn put_used(text: &mut String, used: Shortage) -> Result<(), AllocError>
+fn put_used(text: &mut String, used: Exhausted) -> Result<(), AllocError>
     ensures { OnOk result (string_bytes text.new
         ≡ string_bytes text.old ++ line_text (codes "full" ∷ used_word used ∷ [])) }
 {

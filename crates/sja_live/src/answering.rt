@@ -6,16 +6,16 @@ ghost use Rattle.sja_live.specs.Inside.Standing.{IsAnswered, IsLive, IsWritable}
 ghost use Rattle.sja_live.specs.declared.live_command.LiveCommand.TheVariants.{Strike, Answer, Plan, Bits, Line};
 
 use super::bit_answers::{ran, rested};
+use super::exhausted::Exhausted;
 use super::line_fault::LineFault;
 use super::live_answer::LiveAnswer;
 use super::live_command::LiveCommand;
-use super::place_answers::{came, place_told};
-use super::shortage::Shortage;
+use super::place_answers::{place_told, run_to};
 use super::step_answers::{stepped, was_read, was_written};
 use can_frame::OutOfMemory;
 use sja_plan_text::{PlanTextFault, plan_text};
-use sja_script::StepAnswer;
 use sja_session::{NoPlan, Session, StrikeFault};
+use sja_steps::StepAnswer;
 use std::alloc::Global;
 
 /// Does what a command asks for, which isn't the end, and gives its answer.
@@ -39,10 +39,10 @@ pub(crate) fn answered(
         }
         LiveCommand::Run(count) => Ok(ran(session, count)),
         LiveCommand::Rest => Ok(rested(session)),
-        LiveCommand::To(node, place, limit) => Ok(came(session, node, place, limit)),
+        LiveCommand::To(node, place, limit) => Ok(run_to(session, node, place, limit)),
         LiveCommand::PlaceOf(node) => Ok(place_told(session, node)),
-        LiveCommand::Line => Ok(looked(session)),
-        LiveCommand::Strike(node, bit) => struck(session, node, bit),
+        LiveCommand::Line => Ok(lines(session)),
+        LiveCommand::Strike(node, bit) => strike(session, node, bit),
         LiveCommand::Answer(node) => Ok(last_answer(session, node)),
         LiveCommand::Bits => Ok(bits_so_far(session)),
         LiveCommand::Plan => plan_answer(alloc, session),
@@ -52,7 +52,7 @@ pub(crate) fn answered(
 
 /// What a look at the interrupt lines is answered.
 #[tactic(auto, using(crate::proofs::Replies::Asked::told_lines))]
-fn looked(session: &mut Session) -> LiveAnswer
+fn lines(session: &mut Session) -> LiveAnswer
     ensures { IsAnswered session.old session.new Line result }
 {
     LiveAnswer::Lines(session.lines())
@@ -69,7 +69,7 @@ fn bits_so_far(session: &Session) -> LiveAnswer
 /// What a strike is answered.
 ///
 /// Error: [`OutOfMemory`] where memory was refused; nothing changed.
-fn struck(session: &mut Session, node: u8, bit: u64) -> Result<LiveAnswer, OutOfMemory>
+fn strike(session: &mut Session, node: u8, bit: u64) -> Result<LiveAnswer, OutOfMemory>
     ensures answers { IfOk result (IsAnswered session.old session.new (Strike node bit)) }
     ensures kept { OnErr result (session.new ≡ session.old) }
 {
@@ -90,7 +90,7 @@ fn not_struck(fault: StrikeFault) -> Option<LiveAnswer>
         StrikeFault::NoNode => Some(LiveAnswer::Mistaken(LineFault::Node)),
         StrikeFault::NoBit => Some(LiveAnswer::NoBit),
         StrikeFault::Past => Some(LiveAnswer::NoBit),
-        StrikeFault::StrikesUsed => Some(LiveAnswer::Full(Shortage::Strikes)),
+        StrikeFault::StrikesUsed => Some(LiveAnswer::Full(Exhausted::Strikes)),
         StrikeFault::Memory => None,
     }
 }
@@ -120,7 +120,7 @@ fn plan_answer(alloc: Global, session: &Session) -> Result<LiveAnswer, OutOfMemo
     plan.limits();
     match plan_text(alloc, &plan) {
         Ok(document) => Ok(LiveAnswer::PlanSoFar(document)),
-        Err(PlanTextFault::TooLong) => Ok(LiveAnswer::Full(Shortage::Document)),
+        Err(PlanTextFault::TooLong) => Ok(LiveAnswer::Full(Exhausted::Document)),
         Err(PlanTextFault::NoMemory) => Err(OutOfMemory),
     }
 }

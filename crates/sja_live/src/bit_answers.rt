@@ -3,8 +3,8 @@
 ghost use Rattle.sja_live.specs.Inside.Standing.{IsAnswered};
 ghost use Rattle.sja_live.specs.declared.live_command.LiveCommand.TheVariants.{Run, Rest};
 
+use super::exhausted::Exhausted;
 use super::live_answer::LiveAnswer;
-use super::shortage::Shortage;
 use sja_session::Session;
 
 /// What bits up to an interrupt are answered.
@@ -17,7 +17,7 @@ pub(crate) fn ran(session: &mut Session, count: u32) -> LiveAnswer
             None if watched.bits < count => LiveAnswer::Spent(watched.bits),
             None => LiveAnswer::Ran(watched.bits),
         },
-        Err(_) => LiveAnswer::Full(Shortage::Turns),
+        Err(_) => LiveAnswer::Full(Exhausted::Turns),
     }
 }
 
@@ -29,6 +29,6 @@ pub(crate) fn rested(session: &mut Session) -> LiveAnswer
     match session.rest() {
         Ok(rested) if rested.at_rest => LiveAnswer::Ran(rested.bits),
         Ok(rested) => LiveAnswer::Spent(rested.bits),
-        Err(_) => LiveAnswer::Full(Shortage::Turns),
+        Err(_) => LiveAnswer::Full(Exhausted::Turns),
     }
 }

@@ -9,7 +9,7 @@ use super::command_refusal::CommandRefusal;
 use super::line_fault::LineFault;
 use super::live_command::LiveCommand;
 use super::place_words::to_place_of;
-use sja_plan::{
+use sja_plan_reading::{
     GREATEST_NUMBER, TextFault, address_of, node_within, number_within, step_of, value_of,
 };
 use std::alloc::Global;

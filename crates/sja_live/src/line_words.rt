@@ -3,12 +3,12 @@
 ghost use Rattle.std.specs.Prelude.{◌≤◌, IfOk, IfErr};
 ghost use Rattle.sja_live.specs.Commands.{AreCommandWords};
 ghost use Rattle.sja_live.specs.Inside.Reading.{IsCommandRefusal};
-ghost use Rattle.sja_plan.specs.Words.{words};
+ghost use Rattle.sja_plan_reading.specs.Words.{words};
 
 use super::command_refusal::CommandRefusal;
 use super::command_words::command_of;
 use super::live_command::LiveCommand;
-use sja_plan::find_words;
+use sja_plan_reading::find_words;
 use std::alloc::Global;
 
 /// What a line asks for, by this version of the rules, of a session without an end or with one, of so many nodes.

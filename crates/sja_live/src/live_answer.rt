@@ -1,9 +1,9 @@
 //! What a line is answered.
 
+use super::exhausted::Exhausted;
 use super::line_fault::LineFault;
-use super::shortage::Shortage;
 use sja_plan::Place;
-use sja_script::StepAnswer;
+use sja_steps::StepAnswer;
 
 /// What a line is answered (this project's own rule).
 #[derive(Drop)]
@@ -37,7 +37,7 @@ pub enum LiveAnswer {
     /// The bit isn't one that is still to run: `no BIT`.
     NoBit,
     /// Something is used up: `full TURNS` and its like.
-    Full(Shortage),
+    Full(Exhausted),
     /// The line has more than 64 bytes: `long`.
     Long,
 }

@@ -1,7 +1,7 @@
 //! What a line asks a session for.
 
 use sja_plan::Place;
-use sja_script::Step;
+use sja_steps::Step;
 
 /// What a line asks a session for (this project's own rule). Nodes and bits count from 0.
 #[derive(Drop)]

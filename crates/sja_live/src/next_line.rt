@@ -6,9 +6,9 @@ ghost use Rattle.std.specs.Prelude.{IfErr, OnErr};
 ghost use Rattle.sja_live.specs.Inside.Reading.{TakesByte, TakesLine, IsLineOf, IsLineReadable, LeavesLine};
 ghost use Rattle.sja_live.specs.Lines.{most_line};
 ghost use Rattle.sja_live.specs.declared.next_line.Line.TheVariants.{Over};
-ghost use Rattle.sja_live.specs.declared.talk_fault.TalkFault.TheVariants.{Read as ReadFault};
+ghost use Rattle.sja_live.specs.declared.live_session_fault.LiveSessionFault.TheVariants.{Read as ReadFault};
 
-use super::talk_fault::TalkFault;
+use super::live_session_fault::LiveSessionFault;
 use std::alloc::Global;
 use std::io::{ErrorKind, Read};
 
@@ -32,9 +32,9 @@ pub(crate) enum Line {
 
 /// Reads the next line. One that is too long is read to its line feed, and forgotten.
 ///
-/// Errors: [`TalkFault::Read`] where a read failed; [`TalkFault::Memory`].
+/// Errors: [`LiveSessionFault::Read`] where a read failed; [`LiveSessionFault::Memory`].
 #[tactic(auto, using(crate::proofs::Talks::BreakingOff::lines_left))]
-pub(crate) fn next_line<R: Read>(alloc: Global, input: &mut R) -> Result<Line, TalkFault>
+pub(crate) fn next_line<R: Read>(alloc: Global, input: &mut R) -> Result<Line, LiveSessionFault>
     ensures line { IfOk result (λ line. TakesLine (R.remaining input.old) (R.remaining input.new) line) }
     ensures readable { IfOk result IsLineReadable }
     ensures broken { IfErr result (LeavesLine (R.remaining input.old) (R.remaining input.new)) }
@@ -51,7 +51,7 @@ pub(crate) fn next_line<R: Read>(alloc: Global, input: &mut R) -> Result<Line, T
         keep(&mut bytes, byte);
         count += 1;
     }
-    Err(TalkFault::Read)
+    Err(LiveSessionFault::Read)
 }
 
 /// Keeps one byte more of a line, where fewer are kept than a line has at most.
@@ -94,8 +94,8 @@ fn line_of(bytes: Vec<u8>, count: u64) -> Line
 
 /// Reads one byte. None where the input is over. A read that was interrupted is tried again.
 ///
-/// Error: [`TalkFault::Read`] where a read failed; none was read.
-fn next_byte<R: Read>(input: &mut R) -> Result<Option<u8>, TalkFault>
+/// Error: [`LiveSessionFault::Read`] where a read failed; none was read.
+fn next_byte<R: Read>(input: &mut R) -> Result<Option<u8>, LiveSessionFault>
     ensures byte { IfOk result (λ byte. TakesByte (R.remaining input.old) (R.remaining input.new) byte) }
     ensures err { IfErr result (λ fault. fault ≡ ReadFault) }
     ensures kept { OnErr result (Keeps (R.remaining input.old) (R.remaining input.new)) }
@@ -107,10 +107,10 @@ fn next_byte<R: Read>(input: &mut R) -> Result<Option<u8>, TalkFault>
             Ok(_) => return Ok(Some(byte[0])),
             Err(error) => {
                 if error.kind() != ErrorKind::Interrupted {
-                    return Err(TalkFault::Read);
+                    return Err(LiveSessionFault::Read);
                 }
             }
         }
     }
-    Err(TalkFault::Read)
+    Err(LiveSessionFault::Read)
 }

@@ -4,13 +4,14 @@ ghost use Rattle.std.specs.Prelude.{◌≡◌, IfOk, IfErr};
 ghost use Rattle.sja_live.specs.Inside.Reading.{IsOpeningRefusal};
 ghost use Rattle.sja_live.specs.Lines.{IsReadable};
 ghost use Rattle.sja_live.specs.Opening.{IsLiveLine, IsOpeningFault, Opens, least_bits};
-ghost use Rattle.sja_plan.specs.Words.{Text, words};
+ghost use Rattle.sja_plan_reading.specs.Words.{Text, words};
 
 use super::opening::Opening;
 use super::opening_fault::OpeningFault;
 use super::opening_refusal::OpeningRefusal;
-use sja_plan::{RAW_VERSION, find_words, most_bits, number_within};
-use sja_script::MOST_NODES;
+use sja_plan::{FIRST_BY_BYTES, most_bits};
+use sja_plan_reading::{find_words, number_within};
+use sja_steps::MOST_NODES;
 use std::alloc::Global;
 
 /// What the first line says.
@@ -43,7 +44,7 @@ fn opening_of(version: &str, bits: &str, nodes: &str) -> Result<Opening, Opening
     ensures err { (line : Text) → IsReadable line → IsLiveLine (words line) version.now bits.now nodes.now
         → IfErr result (IsOpeningFault line) }
 {
-    let Ok(version) = number_within(version, 1, u32::from(RAW_VERSION)) else {
+    let Ok(version) = number_within(version, 1, u32::from(FIRST_BY_BYTES)) else {
         return Err(OpeningFault::Version);
     };
     let version = version as u8;
@@ -65,5 +66,5 @@ fn opening_of(version: &str, bits: &str, nodes: &str) -> Result<Opening, Opening
 fn least_bits(version: u8) -> u32
     ensures { result ≡ least_bits version }
 {
-    if version < RAW_VERSION { 1 } else { 0 }
+    if version < FIRST_BY_BYTES { 1 } else { 0 }
 }

@@ -2,7 +2,7 @@
 
 ghost use Rattle.std.specs.Prelude.{◌≡◌, ◌++◌, [], ◌∷◌, codes, string_bytes, OnOk};
 ghost use Rattle.sja_live.specs.PlaceTexts.{place_text};
-ghost use Rattle.sja_report.specs.ReportLines.{line_text};
+ghost use Rattle.text_report.specs.ReportLines.{line_text};
 
 use sja_plan::Place;
 use std::alloc::AllocError;

@@ -7,7 +7,10 @@ ghost use Rattle.sja_live.specs.Inside.Reading.{IsCommandRefusal, SaysWay, IsWay
 use super::command_refusal::CommandRefusal;
 use super::line_fault::LineFault;
 use super::live_command::LiveCommand;
-use sja_plan::{GREATEST_NUMBER, Place, node_within, number_within, place_of_word, place_of_words};
+use sja_plan::Place;
+use sja_plan_reading::{
+    GREATEST_NUMBER, node_within, number_within, place_of_word, place_of_words,
+};
 
 /// Bits up to a place of a node: the words behind it, the place in one or two of them and a number.
 pub(crate) fn to_place_of(

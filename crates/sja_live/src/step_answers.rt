@@ -6,11 +6,11 @@ ghost use Rattle.sja_live.specs.Inside.Standing.{IsAnswered};
 ghost use Rattle.sja_live.specs.declared.live_command.LiveCommand.TheVariants.{Step as StepOf, Read, Write};
 ghost use Rattle.sja_plan_text.specs.HasTexts.{HasStepText};
 
+use super::exhausted::Exhausted;
 use super::line_fault::LineFault;
 use super::live_answer::LiveAnswer;
-use super::shortage::Shortage;
-use sja_script::{Step, StepAnswer};
 use sja_session::{Session, StepFault, StepOutcome};
+use sja_steps::{Step, StepAnswer};
 
 /// What a step is answered.
 pub(crate) fn stepped(session: &mut Session, node: u8, step: Step) -> LiveAnswer
@@ -50,7 +50,7 @@ fn not_done(fault: StepFault) -> LiveAnswer
 {
     match fault {
         StepFault::NoNode => LiveAnswer::Mistaken(LineFault::Node),
-        StepFault::StepsUsed => LiveAnswer::Full(Shortage::Steps),
-        StepFault::TurnsUsed => LiveAnswer::Full(Shortage::Turns),
+        StepFault::StepsUsed => LiveAnswer::Full(Exhausted::Steps),
+        StepFault::TurnsUsed => LiveAnswer::Full(Exhausted::Turns),
     }
 }

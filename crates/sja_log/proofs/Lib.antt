@@ -1,7 +1,0 @@
--- a deed more, and a bit more, beside what was put
-pub mod Account
-pub mod Trace
--- the end of a run
-pub mod NodeLog
-pub mod LogWith
-pub mod OneNode

@@ -1,7 +1,7 @@
 -- What the log of a run says (this project's own rule).
 use Rattle.std.specs.Prelude.{ℕ, List, map}
-use Rattle.sja_link.specs.declared.entry.Entry.{Entry}
-use Rattle.sja_script.specs.declared.done.Done.{Done}
+use Rattle.sja_journal.specs.declared.entry.Entry.{Entry}
+use Rattle.sja_steps.specs.declared.step_record.StepRecord.{StepRecord}
 use Rattle.sja_log.specs.declared.end.End.{End}
 
 -- of one activation the messages that its driver released, and those that it left unread
@@ -14,7 +14,7 @@ pub record NodeValue : Type 0 where
   pub journal : List Entry
   pub txerr : ℕ
   pub rxerr : ℕ
-  pub done : List Done
+  pub done : List StepRecord
   pub activations : List ActivationValue
 
 -- of a run the plan's version, the bits run, why it ended, and the nodes

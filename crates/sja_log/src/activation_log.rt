@@ -23,7 +23,7 @@ impl ActivationLog {
     ghost use Rattle.std.specs.Prelude.{◌≡◌};
 
     /// The log of an activation: the messages that its driver released, and those that it left unread, which are those
-    /// that it held and then those on the link. Beside [`node_runs`](super::nodes::node_runs) tests alone call it.
+    /// that it held and then those on the link. Beside `node_runs` of `sja_promises` tests alone call it.
     pub fn of(released: Vec<Message>, unread: Vec<Message>) -> ActivationLog
         ensures { result ≡ record { released = released.items; unread = unread.items } }
     {

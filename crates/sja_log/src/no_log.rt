@@ -1,7 +1,7 @@
 //! Why there is no log of a run.
 
 use can_frame::OutOfMemory;
-use sja_link::Endless;
+use sja_journal::Endless;
 use std::alloc::AllocError;
 use thiserror::Error;
 

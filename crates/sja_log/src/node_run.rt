@@ -1,8 +1,8 @@
 //! [`NodeRun`]: what became of one node.
 
 use super::activation_log::ActivationLog;
-use sja_link::Journal;
-use sja_script::Done;
+use sja_journal::Journal;
+use sja_steps::StepRecord;
 use std::marker::Model;
 
 /// What became of one node in a run (this project's own rule). Contracts see it as these five values, the journal as
@@ -12,7 +12,7 @@ pub struct NodeRun {
     journal: Journal,
     txerr: u8,
     rxerr: u8,
-    done: Vec<Done>,
+    done: Vec<StepRecord>,
     activations: Vec<ActivationLog>,
 }
 
@@ -34,13 +34,13 @@ impl NodeRun {
     ghost use Rattle.std.specs.Prelude.{◌≡◌};
 
     /// What became of a node: its journal, its error counters as TXERR and RXERR read at the end, the steps that its
-    /// driver did, and its activations, each in order. Beside [`node_runs`](super::nodes::node_runs) tests alone
+    /// driver did, and its activations, each in order. Beside `node_runs` of `sja_promises` tests alone
     /// call it.
     pub fn of(
         journal: Journal,
         txerr: u8,
         rxerr: u8,
-        done: Vec<Done>,
+        done: Vec<StepRecord>,
         activations: Vec<ActivationLog>,
     ) -> NodeRun
         ensures journal { result.journal ≡ journal.entries }
@@ -79,7 +79,7 @@ impl NodeRun {
     }
 
     /// The steps that the driver did, in order.
-    pub fn done(&self) -> &[Done]
+    pub fn done(&self) -> &[StepRecord]
         ensures { result.now ≡ self.now.done }
     {
         self.done.as_slice()
@@ -90,12 +90,5 @@ impl NodeRun {
         ensures { result.now ≡ self.now.activations }
     {
         self.activations.as_slice()
-    }
-
-    /// The same node with these steps done in place of its own.
-    pub(crate) fn replace_steps(&mut self, done: Vec<Done>)
-        ensures { self.new ≡ record self.old { done = done.items } }
-    {
-        self.done = done;
     }
 }

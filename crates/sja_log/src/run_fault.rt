@@ -1,7 +1,7 @@
 //! Why a run has no log.
 
 use can_frame::OutOfMemory;
-use sja_wire::BusFault;
+use sja_journal::BusFault;
 use std::alloc::{AllocError, AllocFailed};
 use thiserror::Error;
 

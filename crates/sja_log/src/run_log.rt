@@ -1,11 +1,9 @@
 //! [`RunLog`]: what a run did.
 
-ghost use Rattle.std.specs.Prelude.{◌≡◌, map};
-ghost use Rattle.sja_log.specs.LogWith.{nodes_with};
+ghost use Rattle.std.specs.Prelude.{◌≡◌};
 
 use super::end::End;
 use super::node_run::NodeRun;
-use sja_script::Done;
 use std::marker::Model;
 
 /// What a run did (this project's own rule). Contracts see it as these four values.
@@ -26,8 +24,7 @@ impl Model for RunLog {
 }
 
 impl RunLog {
-    ghost use Rattle.std.specs.Prelude.{◌≡◌, map};
-    ghost use Rattle.sja_log.specs.LogWith.{log_with};
+    ghost use Rattle.std.specs.Prelude.{◌≡◌};
 
     /// The log of a run: the version of its plan, how many bits were run, why it ended, and its nodes, in order.
     pub fn of(version: u8, bits: u32, end: End, nodes: Vec<NodeRun>) -> RunLog
@@ -68,37 +65,4 @@ impl RunLog {
     {
         self.nodes.as_slice()
     }
-
-    /// The same log with these steps done of the nodes, in order, in place of their own, and with this end. A node for
-    /// which there is no list keeps its own, and a list for which there is no node is let go.
-    pub fn with_steps(self, done: Vec<Vec<Done>>, end: End) -> RunLog
-        ensures { result ≡ log_with self (map (λ steps. steps.items) done.items) end }
-    {
-        let RunLog {
-            version,
-            bits,
-            end: _,
-            nodes,
-        } = self;
-        RunLog {
-            version,
-            bits,
-            end,
-            nodes: nodes_with(nodes, done),
-        }
-    }
-}
-
-/// The same nodes with these steps done, each in place of its own.
-fn nodes_with(nodes: Vec<NodeRun>, done: Vec<Vec<Done>>) -> Vec<NodeRun>
-    ensures { result.items ≡ nodes_with nodes.items (map (λ steps. steps.items) done.items) }
-{
-    let mut nodes = nodes;
-    let mut left = done;
-    while let Some(steps) = left.pop() {
-        if let Some(node) = nodes.get_mut(left.len()) {
-            node.replace_steps(steps);
-        }
-    }
-    nodes
 }

@@ -1,6 +1,6 @@
 -- What the program says where its writers held nothing before: clauses of `sja_alone` over texts that are equal.
-use Rattle.sja_run.specs.Answer.{IsLeft, IsTurnedAway, Shows}
-use Rattle.sja_words.specs.Requests.{Request}
+use Rattle.sja_program.specs.Answer.{IsLeft, IsTurnedAway, Shows}
+use Rattle.sja_command_line.specs.Requests.{Request}
 use Rattle.std.proofs.Common.{◌≡◌, ℕ, Bool, false, List, [], Some, subst, sym}
 
 -- the texts before are empty, and those after are the ones that are named

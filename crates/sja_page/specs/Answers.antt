@@ -7,9 +7,9 @@ use Rattle.sja_page.specs.declared.answer.PageAnswer.{PageAnswer}
 use Rattle.sja_page.specs.Outcomes.{status_of}
 use Rattle.sja_page.specs.declared.outcome.Outcome.{Outcome}
 use Rattle.sja_page.specs.declared.outcome.Outcome.TheVariants.{Ended, LeftOver, NoRoom, NoMemory}
-use Rattle.sja_run.specs.Answer.{IsLeft, IsLeftOver, IsTurnedAway, Shows}
-use Rattle.sja_words.specs.Requests.{Request}
-use Rattle.sja_words.specs.Words.{ParsesAs}
+use Rattle.sja_program.specs.Answer.{IsLeft, IsLeftOver, IsTurnedAway, Shows}
+use Rattle.sja_command_line.specs.Requests.{Request}
+use Rattle.sja_command_line.specs.Words.{ParsesAs}
 
 -- what the program prints (`out`) and tells (`err`) for these words over a plan, and with which exit status
 pub record Says (words : List (List ℕ)) (plan : List ℕ) (status : ℕ) (out err : List ℕ) : Type 0 where

@@ -7,7 +7,7 @@ use super::answer::PageAnswer;
 use super::outcome::Outcome;
 use super::put_texts::put_texts;
 use super::words::words_of;
-use sja_run::{Output, sja_alone};
+use sja_program::{Output, sja_alone};
 use std::alloc::Global;
 
 /// What the program says of an argument that is no text.

@@ -1,3 +1,2 @@
 -- The limits of a plan, in any version.
-pub mod WithinLimits
 pub mod ByVersion

@@ -1,8 +1,8 @@
 -- What a plan says, and the limits that every plan keeps (this project's own rule).
 use Rattle.std.specs.Prelude.{◌<◌, ◌≤◌, ℕ, List, [], length, map, slice_index_or, All}
 use Rattle.std.specs.List.{sum_by}
-use Rattle.sja_script.specs.declared.step.Step.{Step}
-use Rattle.sja_script.specs.declared.strike.Strike.{Strike}
+use Rattle.sja_steps.specs.declared.step.Step.{Step}
+use Rattle.sja_steps.specs.declared.strike.Strike.{Strike}
 use Rattle.sja_plan.specs.Limits.{most_bits, most_steps, most_turns, most_strikes}
 use Rattle.sja_plan.specs.declared.turn.Turn.{Turn}
 use Rattle.sja_plan.specs.declared.turn.Turn.TheVariants.{Bus, Rest, Node, All as AllSteps, Irq, Go}

@@ -2,12 +2,12 @@
 
 ghost use Rattle.std.specs.Prelude.{◌≡◌, ◌≤◌, map, replicate, IfOk};
 ghost use Rattle.sja_plan.specs.Plan.{times_in};
-ghost use Rattle.sja_script.specs.declared.step.Step.TheVariants.{Window};
+ghost use Rattle.sja_steps.specs.declared.step.Step.TheVariants.{Window};
 
 use super::plan::Plan;
 use super::turn::Turn;
 use can_frame::OutOfMemory;
-use sja_script::{Step, Strike};
+use sja_steps::{Step, Strike};
 use std::alloc::Global;
 
 /// Of so many nodes, each so many steps that look at the window.

@@ -3,12 +3,12 @@
 ghost use Rattle.std.specs.Prelude.{◌≡◌, ◌<◌, ◌≤◌, length, map, IfOk, IfErr};
 ghost use Rattle.sja_plan.specs.Plan.{times_in};
 ghost use Rattle.sja_plan.specs.Struck.{struck_at};
-ghost use Rattle.sja_plan.specs.declared.plan_fault.PlanFault.TheVariants.{Memory, StrikeCount};
+ghost use Rattle.sja_plan.specs.declared.strike_refusal.StrikeRefusal.TheVariants.{Memory, StrikeCount};
 
 use super::limits::most_strikes;
 use super::plan::Plan;
-use super::plan_fault::PlanFault;
-use sja_script::{Step, Strike};
+use super::strike_refusal::StrikeRefusal;
+use sja_steps::{Step, Strike};
 use std::alloc::Global;
 
 impl Plan {
@@ -16,7 +16,7 @@ impl Plan {
     ghost use Rattle.sja_plan.specs.Plan.{PlanValue, times_in};
     ghost use Rattle.sja_plan.specs.Limits.{most_strikes};
     ghost use Rattle.sja_plan.specs.Struck.{struck_at, unstruck};
-    ghost use Rattle.sja_plan.specs.declared.plan_fault.PlanFault.TheVariants.{Memory, StrikeCount};
+    ghost use Rattle.sja_plan.specs.declared.strike_refusal.StrikeRefusal.TheVariants.{Memory, StrikeCount};
 
     /// One strike more, behind the others: the node, counted from 0, is struck once, at this bit, counted from 0 (this
     /// project's own rule). All else stays as it is, and nothing but the list of strikes is touched.
@@ -24,9 +24,9 @@ impl Plan {
     /// A node and a bit that several strikes name are struck once: where the plan strikes this node in this bit, it
     /// strikes the same bits as before.
     ///
-    /// Errors, the first that holds, and nothing changed: [`PlanFault::StrikeCount`] where the plan's strikes strike as
-    /// many bits already as they may in its version; [`PlanFault::Memory`] where memory was refused.
-    pub fn strike(&mut self, node: u8, bit: u64) -> Result<(), PlanFault>
+    /// Errors, the first that holds, and nothing changed: [`StrikeRefusal::StrikeCount`] where the plan's strikes
+    /// strike as many bits already as they may in its version; [`StrikeRefusal::Memory`] where memory was refused.
+    pub fn strike(&mut self, node: u8, bit: u64) -> Result<(), StrikeRefusal>
         requires { node < length self.old.nodes }
         ensures struck { OnOk result (self.new ≡ struck_at self.old node bit) }
         ensures left { OnOk result (times_in self.old.strikes < most_strikes self.old.version) }
@@ -36,7 +36,7 @@ impl Plan {
         ensures kept { OnErr result (self.new ≡ self.old) }
     {
         if self.strike_count() >= most_strikes(self.version) {
-            return Err(PlanFault::StrikeCount);
+            return Err(StrikeRefusal::StrikeCount);
         }
         self.strikes.push(Strike {
             node,
@@ -60,9 +60,9 @@ impl Plan {
 
     /// This plan with one strike more, its last one, as [`strike`](Plan::strike) adds it. All else is the same.
     ///
-    /// Errors: [`PlanFault::StrikeCount`] exactly where the plan's strikes strike as many bits already as they may in
-    /// its version, unless [`PlanFault::Memory`] is told: memory was refused.
-    pub fn with_strike(&self, alloc: Global, node: u8, bit: u32) -> Result<Plan, PlanFault>
+    /// Errors: [`StrikeRefusal::StrikeCount`] exactly where the plan's strikes strike as many bits already as they may
+    /// in its version, unless [`StrikeRefusal::Memory`] is told: memory was refused.
+    pub fn with_strike(&self, alloc: Global, node: u8, bit: u32) -> Result<Plan, StrikeRefusal>
         requires { node < length self.now.nodes }
         ensures ok { IfOk result (λ plan. (plan ≡ struck_at self.now node bit)
             × (times_in self.now.strikes < most_strikes self.now.version)) }
@@ -75,7 +75,7 @@ impl Plan {
     }
 
     /// The same plan.
-    fn copy(&self, alloc: Global) -> Result<Plan, PlanFault>
+    fn copy(&self, alloc: Global) -> Result<Plan, StrikeRefusal>
         ensures ok { IfOk result (λ plan. plan ≡ self.now) }
         ensures err { IfErr result (λ fault. fault ≡ Memory) }
     {
@@ -101,7 +101,7 @@ impl Plan {
 }
 
 /// The same steps of each node.
-fn all_nodes(alloc: Global, nodes: &[Vec<Step>]) -> Result<Vec<Vec<Step>>, PlanFault>
+fn all_nodes(alloc: Global, nodes: &[Vec<Step>]) -> Result<Vec<Vec<Step>>, StrikeRefusal>
     ensures ok { IfOk result (λ list. map (λ steps. steps.items) list.items ≡ map (λ steps. steps.items) nodes.now) }
     ensures err { IfErr result (λ fault. fault ≡ Memory) }
 {
@@ -113,7 +113,7 @@ fn all_nodes(alloc: Global, nodes: &[Vec<Step>]) -> Result<Vec<Vec<Step>>, PlanF
 }
 
 /// The same steps.
-fn all_steps(alloc: Global, steps: &[Step]) -> Result<Vec<Step>, PlanFault>
+fn all_steps(alloc: Global, steps: &[Step]) -> Result<Vec<Step>, StrikeRefusal>
     ensures ok { IfOk result (λ list. list.items ≡ steps.now) }
     ensures err { IfErr result (λ fault. fault ≡ Memory) }
 {

@@ -6,7 +6,7 @@ ghost use Rattle.sja_plan.specs.Limits.{most_bits, most_steps, most_turns, most_
 
 use super::turn::Turn;
 use can_frame::OutOfMemory;
-use sja_script::{Step, Strike};
+use sja_steps::{Step, Strike};
 use std::alloc::Global;
 use std::marker::Model;
 

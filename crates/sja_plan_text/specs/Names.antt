@@ -1,5 +1,5 @@
 -- The names with which plans of version 3 are written (this project's own rule). Registers and bits have those of the
--- data sheet (SJA1000, 6.4), which stand in `REGISTERS` and `BITS` of `sja_plan`.
+-- data sheet (SJA1000, 6.4), which stand in `REGISTERS` and `BITS` of `sja_plan_reading`.
 use Rattle.std.specs.Prelude.{◌==◌, ◌&&◌, ◌/◌, ◌%◌, ℕ, Bool, nat_lt, if◌then◌else◌, Option, Some, None, option_map}
 use Rattle.std.specs.Prelude.{List, [], ◌∷◌, length, drop, find, decimal}
 use Rattle.std.specs.Option.{option_or}
@@ -7,9 +7,9 @@ use Rattle.std.specs.List.{join_with_byte, list_all}
 use Rattle.hex.specs.Hex.{encode_lower}
 use Rattle.can_frame.specs.Buffer.{frame_in}
 use Rattle.can_notation.specs.Text.{text}
-use Rattle.sja_plan.specs.Words.{Text}
-use Rattle.sja_plan.specs.RegisterNames.{registers}
-use Rattle.sja_plan.specs.BitNames.{bit_names}
+use Rattle.sja_plan_reading.specs.Words.{Text}
+use Rattle.sja_plan_reading.specs.RegisterNames.{registers}
+use Rattle.sja_plan_reading.specs.BitNames.{bit_names}
 
 -- ---- addresses
 

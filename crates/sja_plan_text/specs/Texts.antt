@@ -1,39 +1,14 @@
 -- The texts in which steps, turns and strikes are written (this project's own rule): words with one space between two,
 -- numbers in decimal without leading zeros, and bytes with two hexadecimal digits each, in lower case; or names.
 use Rattle.std.specs.Prelude.{◌==◌, ◌&&◌, if◌then◌else◌, Bool, true, false, List, [], ◌∷◌, codes, decimal}
-use Rattle.std.specs.List.{join_with_byte}
-use Rattle.hex.specs.Hex.{encode_lower}
-use Rattle.sja_plan.specs.Words.{Text}
-use Rattle.sja_script.specs.declared.step.Step.{Step}
-use Rattle.sja_script.specs.declared.step.Step.TheVariants.{Start, Stop, Window, Release, Read}
-use Rattle.sja_script.specs.declared.step.Step.TheVariants.{Write, Load, Command, Await, Sent, Interrupt, At}
-use Rattle.sja_script.specs.declared.strike.Strike.{Strike}
+use Rattle.sja_plan_reading.specs.Words.{Text}
+use Rattle.sja_steps.specs.declared.step.Step.{Step}
+use Rattle.sja_steps.specs.StepText.{joined, step_words, step_text}
+use Rattle.sja_steps.specs.declared.step.Step.TheVariants.{Read, Write, Load, Command}
+use Rattle.sja_steps.specs.declared.strike.Strike.{Strike}
 use Rattle.sja_plan.specs.declared.turn.Turn.{Turn}
 use Rattle.sja_plan.specs.declared.turn.Turn.TheVariants.{Bus, Rest, Node, All, Irq, Go}
 use Rattle.sja_plan_text.specs.Names.{before_transmit, before_receive, address_word, value_word, message_word}
-
--- words with one space between two
-abbrev pub joined : List Text → Text
-joined words = join_with_byte 32 words
-
--- the words of a step
-abbrev pub step_words : Step → List Text
-step_words Start = codes "start" ∷ []
-step_words Stop = codes "stop" ∷ []
-step_words Window = codes "window" ∷ []
-step_words Release = codes "release" ∷ []
-step_words (Read address) = codes "read" ∷ decimal address ∷ []
-step_words (Write address value) = codes "write" ∷ decimal address ∷ encode_lower (value ∷ []) ∷ []
-step_words (Load message) = codes "load" ∷ encode_lower message ∷ []
-step_words (Command value) = codes "command" ∷ encode_lower (value ∷ []) ∷ []
-step_words (Await count) = codes "await" ∷ decimal count ∷ []
-step_words Sent = codes "sent" ∷ []
-step_words Interrupt = codes "interrupt" ∷ []
-step_words (At least) = codes "at" ∷ decimal least ∷ []
-
--- the text of a step
-abbrev pub step_text : Step → Text
-step_text step = joined (step_words step)
 
 -- the words of a step with names; `command` writes CMR, which is at address 1
 abbrev pub named_words : Step → List Text

@@ -6,12 +6,12 @@ use Rattle.toml.specs.Data.{Data, string, integer, array}
 use Rattle.toml.specs.Tables.{Expression, key_value, array_table}
 use Rattle.toml.specs.Text.{IsLinesText}
 use Rattle.toml.specs.View.{items_of}
-use Rattle.sja_plan.specs.Faults.{IsPlanOf}
-use Rattle.sja_plan.specs.Limits.{most_bytes}
+use Rattle.sja_plan_reading.specs.Faults.{IsPlanOf}
+use Rattle.sja_plan_reading.specs.DocumentLimits.{most_bytes}
 use Rattle.sja_plan.specs.Plan.{PlanValue}
-use Rattle.sja_plan.specs.Words.{Text}
-use Rattle.sja_script.specs.declared.step.Step.{Step}
-use Rattle.sja_script.specs.declared.strike.Strike.{Strike}
+use Rattle.sja_plan_reading.specs.Words.{Text}
+use Rattle.sja_steps.specs.declared.step.Step.{Step}
+use Rattle.sja_steps.specs.declared.strike.Strike.{Strike}
 use Rattle.sja_plan_text.specs.Texts.{spelled_step, turn_text, strike_text}
 
 -- ---- its lines

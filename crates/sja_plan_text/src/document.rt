@@ -13,8 +13,9 @@ use super::plan_text_fault::PlanTextFault;
 use super::table::{node_list, one_member};
 use super::text_form::text_list;
 use can_frame::OutOfMemory;
-use sja_plan::{Plan, RAW_VERSION, most_bytes};
-use sja_script::Strike;
+use sja_plan::{FIRST_BY_BYTES, Plan};
+use sja_plan_reading::most_bytes;
+use sja_steps::Strike;
 use std::alloc::Global;
 use toml::{Value, table_to_string, table_to_string_pretty};
 
@@ -73,7 +74,7 @@ fn document(alloc: Global, plan: &Plan, pretty: bool) -> Result<String, OutOfMem
 fn has_names(pretty: bool, version: u8) -> bool
     ensures { result ≡ has_names pretty version }
 {
-    pretty && version >= RAW_VERSION
+    pretty && version >= FIRST_BY_BYTES
 }
 
 /// Writes the strikes, where there are some.

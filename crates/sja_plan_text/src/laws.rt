@@ -1,19 +1,20 @@
 //! Laws of texts. Each is the contract of a function that does nothing.
 
 ghost use Rattle.std.specs.Prelude.{◌≡◌, ◌≤◌, ◌↔◌, ℕ, List, Bool};
-ghost use Rattle.sja_plan.specs.Words.{Text};
-ghost use Rattle.sja_plan.specs.StepTexts.{SaysStep};
-ghost use Rattle.sja_plan.specs.TurnTexts.{SaysTurn};
-ghost use Rattle.sja_plan.specs.StrikeTexts.{SaysStrike};
+ghost use Rattle.sja_plan_reading.specs.Words.{Text};
+ghost use Rattle.sja_plan_reading.specs.StepTexts.{SaysStep};
+ghost use Rattle.sja_plan_reading.specs.TurnTexts.{SaysTurn};
+ghost use Rattle.sja_plan_reading.specs.StrikeTexts.{SaysStrike};
 ghost use Rattle.sja_plan.specs.Plan.{PlanValue, NamesNode, IsStrikeOn};
-ghost use Rattle.sja_plan.specs.Faults.{IsText, IsPlanOf};
-ghost use Rattle.sja_plan_text.specs.Texts.{step_text, named_text, turn_text, strike_text};
+ghost use Rattle.sja_plan_reading.specs.Faults.{IsText, IsPlanOf};
+ghost use Rattle.sja_plan_text.specs.Texts.{named_text, turn_text, strike_text};
+ghost use Rattle.sja_steps.specs.StepText.{step_text};
 ghost use Rattle.sja_plan_text.specs.HasTexts.{HasStepText, HasTurnText, HasStrikeText, HasTexts};
 ghost use Rattle.sja_plan_text.specs.Document.{IsDocumentOf};
 ghost use Rattle.sja_plan_text.specs.Written.{IsWritten, IsPlanText, IsTooLong, EndsInFeed};
 
 use sja_plan::Turn;
-use sja_script::{Step, Strike};
+use sja_steps::{Step, Strike};
 
 /// In each version the text of a step says it, where a text can.
 #[tactic(auto, using(crate::proofs::Spelling::Steps::step_said))]

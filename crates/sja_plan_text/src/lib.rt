@@ -1,9 +1,9 @@
 //! Plans written as the documents that are read as them.
 //!
-//! [`plan_text`] writes a plan as a TOML document that [`read_plan`](sja_plan::read_plan) reads as this plan;
-//! [`step_text`], [`named_text`], [`turn_text`] and [`strike_text`] write what stands in it. [`has_texts`] tells
-//! whether a plan has a document at all: a [`Plan`](sja_plan::Plan) can hold numbers that no text spells. The laws say
-//! which those are.
+//! [`plan_text`] writes a plan as a TOML document that [`read_plan`](sja_plan_reading::read_plan) reads as this plan;
+//! [`step_text`](sja_steps::step_text), [`named_text`], [`turn_text`] and [`strike_text`] write what stands in it.
+//! [`has_texts`] tells whether a plan has a document at all: a [`Plan`](sja_plan::Plan) can hold numbers that no text
+//! spells. The laws say which those are.
 #![tactic(auto)]
 
 mod document;
@@ -23,5 +23,5 @@ pub use laws::{
     said_strikes_have_texts, said_turns_have_texts,
 };
 pub use plan_text_fault::PlanTextFault;
-pub use texts::{named_text, step_text, strike_text, turn_text};
+pub use texts::{named_text, strike_text, turn_text};
 pub use writable::{has_step_text, has_strike_text, has_texts, has_turn_text};

@@ -2,13 +2,13 @@
 
 ghost use Rattle.std.specs.Prelude.{◌≡◌, map, option_map, string_bytes, IfOk};
 ghost use Rattle.std.specs.Option.{option_or};
-ghost use Rattle.sja_plan.specs.RegisterNames.{registers};
+ghost use Rattle.sja_plan_reading.specs.RegisterNames.{registers};
 ghost use Rattle.sja_plan_text.specs.Names.{before_transmit, before_receive, name_in, register_name, name_or_number};
 ghost use Rattle.sja_plan_text.specs.Names.{set_names, are_named, names_or_digits, value_word, message_word};
 
 use can_frame::{Message, OutOfMemory};
 use can_notation::text_of;
-use sja_plan::{REGISTERS, bit_names};
+use sja_plan_reading::{REGISTERS, bit_names};
 use std::alloc::Global;
 
 /// How many names stand in `REGISTERS` before those of the transmit buffer.

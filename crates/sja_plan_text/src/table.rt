@@ -8,7 +8,7 @@ ghost use Rattle.sja_plan_text.specs.Inside.Table.{node_data, nodes_data};
 use super::text_form::text_list;
 use can_frame::OutOfMemory;
 use sja_plan::Plan;
-use sja_script::Step;
+use sja_steps::Step;
 use std::alloc::Global;
 use toml::{Table, Value};
 

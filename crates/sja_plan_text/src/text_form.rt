@@ -4,10 +4,10 @@ ghost use Rattle.std.specs.Prelude.{◌≡◌, IfOk, map};
 ghost use Rattle.toml.specs.View.{view};
 ghost use Rattle.sja_plan_text.specs.Written.{texts_data};
 
-use super::texts::{named_text, step_text, strike_text, turn_text};
+use super::texts::{named_text, strike_text, turn_text};
 use can_frame::OutOfMemory;
 use sja_plan::Turn;
-use sja_script::{Step, Strike};
+use sja_steps::{Step, Strike, step_text};
 use std::alloc::Global;
 use toml::Value;
 

@@ -4,8 +4,9 @@ ghost use Rattle.std.specs.Prelude.{◌↔◌, ◌≤◌, IsTrue, All, length};
 ghost use Rattle.sja_plan.specs.Limits.{most_steps};
 ghost use Rattle.sja_plan_text.specs.HasTexts.{HasStepText, HasTurnText, HasStrikeText, HasTexts};
 
-use sja_plan::{GREATEST_NUMBER, MOST_RAW_BITS, Plan, RAW_VERSION, Turn, most_steps};
-use sja_script::{Step, Strike};
+use sja_plan::{FIRST_BY_BYTES, MOST_BITS_BY_BYTES, Plan, Turn, most_steps};
+use sja_plan_reading::GREATEST_NUMBER;
+use sja_steps::{Step, Strike};
 
 /// Whether no node of a plan has more steps than a document may have, and each of its steps, turns and strikes has a
 /// text that says it. So it is for each plan that was read ([`a_plan_has_texts`](crate::a_plan_has_texts)), and for
@@ -85,8 +86,8 @@ pub fn has_step_text(version: u8, step: &Step) -> bool
             true
         }
         Step::Await(count) => 1 <= *count && *count <= 21,
-        Step::Interrupt => version >= RAW_VERSION,
-        Step::At(bits) => version >= RAW_VERSION && *bits <= MOST_RAW_BITS,
+        Step::Interrupt => version >= FIRST_BY_BYTES,
+        Step::At(bits) => version >= FIRST_BY_BYTES && *bits <= MOST_BITS_BY_BYTES,
     }
 }
 
@@ -104,13 +105,13 @@ pub fn has_turn_text(version: u8, turn: &Turn) -> bool
         }
         Turn::All(node) => {
             let _node = *node;
-            version >= RAW_VERSION
+            version >= FIRST_BY_BYTES
         }
         Turn::Irq(node, bits) => {
             let _node = *node;
-            version >= RAW_VERSION && 1 <= *bits && *bits <= GREATEST_NUMBER
+            version >= FIRST_BY_BYTES && 1 <= *bits && *bits <= GREATEST_NUMBER
         }
-        Turn::Go => version >= RAW_VERSION,
+        Turn::Go => version >= FIRST_BY_BYTES,
     }
 }
 

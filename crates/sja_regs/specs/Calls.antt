@@ -11,7 +11,6 @@ use Rattle.sja_regs.specs.Reading.{after_reading}
 use Rattle.sja_regs.specs.Writing.{write_faults, after_writing, load_faults, after_loading}
 use Rattle.sja_regs.specs.Commands.{command_faults, after_command}
 use Rattle.sja_regs.specs.Turns.{after_turn}
-use Rattle.sja_regs.specs.DriverSettings.{SettingsValue, with_settings}
 
 -- a call, by what it is of: a turn of the bus, a register, a message, a command, what the driver has set
 pub data Call : Type 0 where
@@ -22,7 +21,6 @@ pub data Call : Type 0 where
   Give : Command → Call
   LeaveReset : Call
   EnterReset : Call
-  Restore : SettingsValue → Call
   Close : Call
   Finish : Call
 
@@ -41,7 +39,6 @@ after_call p (Load m) = unless_refused (first_fault (load_faults p)) p (after_lo
 after_call p (Give c) = unless_refused (first_fault (command_faults p c)) p (after_command p c)
 after_call p LeaveReset = if p.mode.rm then after_leaving_reset p else p
 after_call p EnterReset = after_entering_reset p
-after_call p (Restore settings) = with_settings p settings
 after_call p Close = record p { closed = true }
 after_call p Finish = record p { ended = true }
 

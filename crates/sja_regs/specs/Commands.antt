@@ -1,7 +1,7 @@
 -- The command register CMR (SJA1000 data sheet, 6.4.4).
 use Rattle.std.specs.Prelude.{◌||◌, ◌&&◌, not, ℕ, Bool, if◌then◌else◌, Option, Some, None, List, [], ◌∷◌}
 use Rattle.can_frame.specs.Buffer.{frame_in}
-use Rattle.can_node.specs.declared.request.Request.{Request}
+use Rattle.can_node_rules.specs.declared.request.Request.{Request}
 use Rattle.sja_regs.specs.declared.command.Command.{Command}
 use Rattle.sja_regs.specs.declared.reg_fault.RegFault.{RegFault}
 use Rattle.sja_regs.specs.declared.reg_fault.RegFault.TheVariants.{ActiveOnly, UseTyped}

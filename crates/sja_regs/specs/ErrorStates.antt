@@ -17,8 +17,8 @@ is_passive rxerr txerr = nat_le 128 txerr || nat_le 128 rxerr
 -- EI where ES or BS changes, EPI where error passive begins or ends. In a version for drivers that know addresses and
 -- bytes alone (`raw`) going bus-off brings no EPI (6.4.6); in the others it does (this project's own rule)
 abbrev pub causes_between : Bool → ErrorState → ErrorState → Interrupts
-causes_between raw old new =
+causes_between by_bytes old new =
     record no_interrupt {
       ei = differ old.es new.es || differ old.bs new.bs;
-      epi = differ old.passive new.passive && not (raw && (not old.bs && new.bs));
+      epi = differ old.passive new.passive && not (by_bytes && (not old.bs && new.bs));
     }

@@ -1,6 +1,6 @@
 -- What holds of the registers of every port, at each call and behind each lock (this project's own rule).
 use Rattle.std.specs.Prelude.{◌≡◌, true, false, None, length}
-use Rattle.sja_regs.specs.Registers.{is_raw}
+use Rattle.sja_regs.specs.Registers.{by_bytes}
 use Rattle.sja_regs.specs.declared.registers.Registers.{Registers}
 
 -- the register facts
@@ -15,7 +15,7 @@ pub record RegisterFacts (p : Registers) : Type 0 where
   pub abort : p.abort ≡ true → p.tbs ≡ false
   -- error counters are written in reset mode alone, and from version 3 on alone
   pub set : p.mode.rm ≡ false → (p.set_tec ≡ None) × (p.set_rec ≡ None)
-  pub set_first : is_raw p ≡ false → (p.set_tec ≡ None) × (p.set_rec ≡ None)
+  pub set_first : by_bytes p ≡ false → (p.set_tec ≡ None) × (p.set_rec ≡ None)
   -- no wake-up interrupt comes, and RI isn't kept: it follows from RBS
   pub never : (p.pending.wui ≡ false) × (p.pending.ri ≡ false)
   -- four code registers, four mask registers and 13 bytes of the transmit buffer

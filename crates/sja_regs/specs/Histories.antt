@@ -1,6 +1,6 @@
 -- What stands in a register after several calls, or after a write (SJA1000 data sheet, 6.4.6, 6.4.8 and 6.4.9).
 use Rattle.std.specs.Prelude.{◌≢◌, ◌≡◌, ◌||◌, ◌&&◌, ◌+◌, ◌%◌, not, ℕ, Bool, true, false}
-use Rattle.std.specs.Prelude.{if◌then◌else◌, Option, Some, None, List, [], ◌∷◌, All, nat_le}
+use Rattle.std.specs.Prelude.{if◌then◌else◌, Option, Some, None, List, [], ◌∷◌, All}
 use Rattle.sja_regs.specs.declared.interrupts.Interrupts.{Interrupts}
 use Rattle.sja_regs.specs.declared.register.Register.{Register}
 use Rattle.sja_regs.specs.declared.register.Register.TheVariants.{Mode, InterruptEnable, ErrorWarningLimit}
@@ -12,12 +12,12 @@ use Rattle.sja_regs.specs.ErrorStates.{causes_between}
 use Rattle.sja_regs.specs.Bits.{is_set}
 use Rattle.sja_regs.specs.Modes.{mode_of}
 use Rattle.sja_regs.specs.Refusals.{first_fault}
-use Rattle.sja_regs.specs.Registers.{is_raw, is_forced, gone_off, error_state_of, error_causes, without_reset}
+use Rattle.sja_regs.specs.Registers.{by_bytes, is_forced, gone_off, error_state_of, error_causes, without_reset}
 use Rattle.sja_regs.specs.Writing.{mode_faults}
 use Rattle.sja_regs.specs.Interrupting.{no_interrupt}
 use Rattle.sja_regs.specs.Commands.{requests}
 use Rattle.sja_regs.specs.Turns.{ends, goes_off, lost_in, fault_in, causes}
-use Rattle.sja_regs.specs.Calls.{Call, Turn, Read, Write, Give, LeaveReset, EnterReset, Restore, after_call}
+use Rattle.sja_regs.specs.Calls.{Call, Turn, Read, Write, Give, LeaveReset, EnterReset, after_call}
 
 -- none of these calls reads the register
 abbrev pub IsUnread : Register → List Call → Type 0
@@ -114,17 +114,15 @@ enabled_causes p (call ∷ calls) = either (both (causes_by p call) p.enabled) (
 abbrev pub enters_reset : Registers → Call → Bool
 enters_reset p (Turn turn) = goes_off p turn
 enters_reset p EnterReset = true
-enters_reset p (Restore settings) = settings.mode.rm && not p.mode.rm
 enters_reset p other = false
 
 -- none of these calls enters reset mode, where that clears interrupts: from version 3 on
 abbrev pub KeepPending : Registers → List Call → Type 0
 KeepPending p [] = Unit {0}
-KeepPending p (call ∷ calls) = ((is_raw p && enters_reset p call) ≡ false) × KeepPending (after_call p call) calls
+KeepPending p (call ∷ calls) = ((by_bytes p && enters_reset p call) ≡ false) × KeepPending (after_call p call) calls
 
 -- the call leaves the version below 3, where it sets one
 abbrev pub IsEarlier : Call → Type 0
-IsEarlier (Restore settings) = nat_le 3 settings.version ≡ false
 IsEarlier other = Unit {0}
 
 -- ---- TBS
@@ -133,7 +131,6 @@ IsEarlier other = Unit {0}
 abbrev pub releases : Registers → Call → Bool
 releases p (Turn turn) = ends p turn || goes_off p turn
 releases p EnterReset = true
-releases p (Restore settings) = settings.mode.rm && not p.mode.rm
 releases p other = false
 
 -- one of these calls does

@@ -14,7 +14,10 @@ pub mod Reading
 pub mod Writing
 pub mod Commands
 pub mod Turns
-pub mod Keeping
+pub mod Preservation
 pub mod Calls
 pub mod Histories
 pub mod Inside
+
+-- ---- the face: the lemmas that proofs of other crates cite
+-- face: proofs.BusTurns.SaysTheSame.{says_same}

@@ -1,7 +1,7 @@
 -- What a port keeps, as a whole: after power-on, what follows, and reset mode (SJA1000 data sheet, 6.4.2 to 6.4.6).
 use Rattle.std.specs.Prelude.{◌+◌, ◌-◌, ◌^◌, ◌==◌, ◌||◌, ◌&&◌, min, nat_le, ℕ, Bool, true, false, if◌then◌else◌, None}
 use Rattle.std.specs.Prelude.{is_some, replicate}
-use Rattle.can_node.specs.declared.config.Config.{Config}
+use Rattle.can_node_rules.specs.declared.config.Config.{Config}
 use Rattle.sja_regs.specs.declared.registers.Registers.{Registers}
 use Rattle.sja_regs.specs.declared.status.Status.{Status}
 use Rattle.sja_regs.specs.declared.interrupts.Interrupts.{Interrupts}
@@ -43,12 +43,12 @@ at_power_on version =
     }
 
 -- a version for drivers that know addresses and bytes alone: from 3 on (this project's own rule)
-abbrev pub is_raw : Registers → Bool
-is_raw p = nat_le 3 p.version
+abbrev pub by_bytes : Registers → Bool
+by_bytes p = nat_le 3 p.version
 
 -- ES: an error counter has come to the limit; from version 3 on also all through bus-off (SJA1000 data sheet, 6.4.5)
 abbrev pub es_of : Registers → Bool
-es_of p = is_warning p.ewlr p.rxerr p.txerr || is_raw p && p.bs
+es_of p = is_warning p.ewlr p.rxerr p.txerr || by_bytes p && p.bs
 
 -- the error state that the counters, the limit and bus-off make
 abbrev pub error_state_of : Registers → ErrorState
@@ -57,11 +57,11 @@ error_state_of p = record { es = es_of p; bs = p.bs; passive = is_passive p.rxer
 -- what is shown of it: from version 3 on it stands still in reset mode, as it was when that was entered, whatever is
 -- written to EWLR, RXERR and TXERR (SJA1000 data sheet, 6.4.10 to 6.4.12)
 abbrev pub shown_state : Registers → ErrorState
-shown_state p = if is_raw p && p.mode.rm then p.frozen else error_state_of p
+shown_state p = if by_bytes p && p.mode.rm then p.frozen else error_state_of p
 
 -- the causes of EI and EPI where one state of the registers becomes another, whatever the call
 abbrev pub error_causes : Registers → Registers → Interrupts
-error_causes old new = causes_between (is_raw old) (shown_state old) (shown_state new)
+error_causes old new = causes_between (by_bytes old) (shown_state old) (shown_state new)
 
 -- SR: RBS where a message is at the driver's end, ES and BS as the error state is shown, the others as they are kept
 abbrev pub status_of : Registers → BufferView → Status
@@ -96,7 +96,7 @@ config_of p =
 -- a bus-off is asked for that didn't come yet (SJA1000 data sheet, 6.4.12): from version 3 on, where TXERR was written
 -- 255 in reset mode
 abbrev pub asks_off : Registers → Bool
-asks_off p = is_raw p && (is_some p.set_tec && (p.txerr == 255))
+asks_off p = by_bytes p && (is_some p.set_tec && (p.txerr == 255))
 
 -- it comes as reset mode is about to be left
 abbrev pub is_forced : Registers → Bool
@@ -129,7 +129,7 @@ after_leaving_reset p =
 -- what stays pending of these interrupts as reset mode is entered: from version 3 on EI alone (SJA1000 data sheet,
 -- 6.4.2, reset values), in the others all (this project's own rule)
 abbrev pub pending_in_reset : Registers → Interrupts → Interrupts
-pending_in_reset p pending = if is_raw p then record no_interrupt { ei = pending.ei } else pending
+pending_in_reset p pending = if by_bytes p then record no_interrupt { ei = pending.ei } else pending
 
 -- reset mode is entered: the transmit buffer is released with no interrupt, no abort stands any more, DOS is 0, and RS
 -- and TS are 1. TCS, ALC and ECC stay (this project's own rule)

@@ -1,20 +1,21 @@
 -- What one bit of the bus changes, a register at a time (SJA1000 data sheet, 6.4.3 to 6.4.12).
 use Rattle.std.specs.Prelude.{◌==◌, ◌||◌, ◌&&◌, not, ℕ, Bool, true, false, if◌then◌else◌, Option, Some, None, is_some}
-use Rattle.can_bits.specs.declared.segment.Segment.{Segment}
-use Rattle.can_node.specs.declared.cause.Cause.{Cause}
-use Rattle.can_node.specs.declared.outcome.Outcome.{Outcome}
-use Rattle.can_node.specs.declared.outcome.Outcome.TheVariants.{Sent, Failed}
-use Rattle.can_node.specs.declared.phase.Phase.{Phase}
-use Rattle.can_node.specs.declared.phase.Phase.TheVariants.{Reset, Waiting, Idle, Frame, Flag}
-use Rattle.can_node.specs.declared.phase.Phase.TheVariants.{Delimiter, Intermission, Suspension}
+use Rattle.can_levels.specs.declared.segment.Segment.{Segment}
+use Rattle.can_node_rules.specs.declared.cause.Cause.{Cause}
+use Rattle.can_node_rules.specs.declared.outcome.Outcome.{Outcome}
+use Rattle.can_node_rules.specs.declared.outcome.Outcome.TheVariants.{Sent, Failed}
+use Rattle.can_node_rules.specs.declared.phase.Phase.{Phase}
+use Rattle.can_node_rules.specs.declared.phase.Phase.TheVariants.{Reset, Waiting, Idle, Frame, Flag}
+use Rattle.can_node_rules.specs.declared.phase.Phase.TheVariants.{Delimiter, Intermission, Suspension}
 use Rattle.sja_regs.specs.declared.interrupts.Interrupts.{Interrupts}
 use Rattle.sja_regs.specs.declared.bus_turn.BusTurn.{BusTurn}
 use Rattle.sja_regs.specs.declared.registers.Registers.{Registers}
 use Rattle.sja_regs.specs.declared.capture.Capture.{Capture}
 use Rattle.sja_regs.specs.declared.error_state.ErrorState.{ErrorState}
-use Rattle.sja_regs.specs.Registers.{is_raw, error_causes, shown_state, pending_in_reset}
+use Rattle.sja_regs.specs.Registers.{by_bytes, error_causes, shown_state, pending_in_reset}
 use Rattle.sja_regs.specs.Interrupting.{no_interrupt, pending_after}
-use Rattle.sja_regs.specs.Captures.{after_capture, error_code}
+use Rattle.can_node_rules.specs.ErrorCode.{error_code}
+use Rattle.sja_regs.specs.Captures.{after_capture}
 
 -- ---- what the turn brings
 
@@ -77,7 +78,7 @@ abort_after p turn = not (ends p turn || goes_off p turn) && p.abort
 -- from version 3 on RS and TS stand at 1 in reset mode (SJA1000 data sheet, 6.4.2), and a late turn of an activation
 -- that the driver has left moves them in no mode (this project's own rule)
 abbrev pub stands_still : Registers → BusTurn → Bool
-stands_still p turn = is_raw p && (p.mode.rm || not (turn.activation == p.activation))
+stands_still p turn = by_bytes p && (p.mode.rm || not (turn.activation == p.activation))
 
 abbrev pub rs_after : Registers → BusTurn → Bool
 rs_after p turn = if stands_still p turn then p.rs else rs_told turn
@@ -89,7 +90,7 @@ ts_after p turn = if stands_still p turn then p.ts else ts_told turn
 -- turns of the present activation, until a counter is written in reset mode (SJA1000 data sheet, 6.4.11 and 6.4.12)
 abbrev pub follows_node : Registers → BusTurn → Bool
 follows_node p turn =
-    not (is_raw p) || ((turn.activation == p.activation) && not (is_some p.set_tec || is_some p.set_rec))
+    not (by_bytes p) || ((turn.activation == p.activation) && not (is_some p.set_tec || is_some p.set_rec))
 
 abbrev pub rxerr_after : Registers → BusTurn → ℕ
 rxerr_after p turn = if follows_node p turn then turn.rxerr else p.rxerr
@@ -134,7 +135,7 @@ fault_in p turn = if is_live p turn then code_of_fault turn.events.fault turn.ev
 -- an event gives its interrupt: from version 3 on only where it is captured, so that the register has to be read before
 -- the next one comes (SJA1000 data sheet, 6.4.8 and 6.4.9); in the others always (this project's own rule)
 abbrev pub may_tell : Registers → Capture → Bool
-may_tell p c = c.was_read || not (is_raw p)
+may_tell p c = c.was_read || not (by_bytes p)
 
 -- which interrupts have a cause
 abbrev pub causes : Registers → BusTurn → Interrupts

@@ -15,7 +15,7 @@ use Rattle.sja_regs.specs.declared.reg_fault.RegFault.TheVariants.{UseTyped, Not
 use Rattle.sja_regs.specs.declared.registers.Registers.{Registers}
 use Rattle.sja_regs.specs.Bits.{differ}
 use Rattle.sja_regs.specs.ErrorStates.{causes_between}
-use Rattle.sja_regs.specs.Registers.{is_raw, is_forced, gone_off, error_state_of, error_causes}
+use Rattle.sja_regs.specs.Registers.{by_bytes, is_forced, gone_off, error_state_of, error_causes}
 use Rattle.sja_regs.specs.Modes.{mode_of}
 use Rattle.sja_regs.specs.Interrupting.{interrupts_of, pending_after}
 
@@ -42,8 +42,8 @@ write_faults p Mode value = mode_faults p (mode_of value)
 write_faults p Command value = (true, UseTyped) ∷ []
 write_faults p InterruptEnable value = []
 write_faults p ErrorWarningLimit value = (not p.mode.rm, ResetOnly) ∷ []
-write_faults p ReceiveErrorCounter value = (not (is_raw p), ReadOnly) ∷ (not p.mode.rm, ResetOnly) ∷ []
-write_faults p TransmitErrorCounter value = (not (is_raw p), ReadOnly) ∷ (not p.mode.rm, ResetOnly) ∷ []
+write_faults p ReceiveErrorCounter value = (not (by_bytes p), ReadOnly) ∷ (not p.mode.rm, ResetOnly) ∷ []
+write_faults p TransmitErrorCounter value = (not (by_bytes p), ReadOnly) ∷ (not p.mode.rm, ResetOnly) ∷ []
 write_faults p (AcceptanceCode i) value = []
 write_faults p (AcceptanceMask i) value = []
 write_faults p (Buffer i) value = (not p.tbs, Locked) ∷ []

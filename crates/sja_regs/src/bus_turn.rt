@@ -1,6 +1,6 @@
 //! What one bit tells the registers.
 
-use can_node::{BitEvents, Phase};
+use can_node_rules::{BitEvents, Phase};
 
 /// What the bus tells a port after one bit.
 #[derive(Debug, PartialEq, Eq, Drop)]

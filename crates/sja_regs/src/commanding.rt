@@ -8,7 +8,7 @@ use super::command::Command;
 use super::port::Port;
 use super::reg_fault::RegFault;
 use can_frame::Frame;
-use can_node::Request;
+use can_node_rules::Request;
 
 impl Port {
     /// Whether [`command`](Port::command) would refuse a command. The request that it makes isn't looked at.

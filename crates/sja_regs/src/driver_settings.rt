@@ -3,7 +3,6 @@
 use super::interrupts::Interrupts;
 use super::mode::Mode;
 use super::port::Port;
-use super::registers::Registers;
 use std::marker::Model;
 
 /// What the driver alone sets of a port's registers (this project's own rule): the version of the model, MOD, IER,
@@ -61,7 +60,7 @@ impl DriverSettings {
 
 impl Port {
     ghost use Rattle.std.specs.Prelude.{◌≡◌};
-    ghost use Rattle.sja_regs.specs.DriverSettings.{settings_in, HasSettings, with_reset, with_settings};
+    ghost use Rattle.sja_regs.specs.DriverSettings.{settings_in};
 
     /// What the driver has set.
     pub fn settings(&self) -> DriverSettings
@@ -78,39 +77,6 @@ impl Port {
             acr: registers.acr,
             amr: registers.amr,
             buffer: registers.buffer,
-        }
-    }
-
-    /// Sets what the driver has set, and nothing else. Where the port is in reset mode it stays there, and where the
-    /// driver left it in reset mode it is; a port that has these settings stays as it is.
-    pub fn restore(&mut self, settings: &DriverSettings)
-        ensures after { self.new ≡ with_settings self.old settings.now }
-        ensures has { HasSettings self.new settings.now }
-        ensures same { HasSettings self.old settings.now → self.new ≡ self.old }
-    {
-        self.enter_reset_as(settings);
-        let registers: &mut Registers = &mut self.registers;
-        let rm = registers.mode.rm;
-        registers.version = settings.version;
-        registers.mode = Mode {
-            rm,
-            ..settings.mode
-        };
-        registers.enabled = settings.enabled;
-        registers.ewlr = settings.ewlr;
-        registers.set_tec = settings.set_tec;
-        registers.set_rec = settings.set_rec;
-        registers.acr = settings.acr;
-        registers.amr = settings.amr;
-        registers.buffer = settings.buffer;
-    }
-
-    /// Enters reset mode where the driver left the port in it and it isn't.
-    fn enter_reset_as(&mut self, settings: &DriverSettings)
-        ensures { self.new ≡ with_reset self.old settings.now }
-    {
-        if settings.mode.rm && !self.registers.mode.rm {
-            self.enter_reset();
         }
     }
 }

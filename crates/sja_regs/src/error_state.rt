@@ -20,12 +20,12 @@ pub(crate) struct ErrorState {
 impl ErrorState {
     /// Which of EI and EPI have a cause, where this state becomes a new one, in a version for drivers that know
     /// addresses and bytes alone (`raw`) or in another: in those EPI doesn't come with bus-off.
-    pub(crate) fn causes(self, raw: bool, new: ErrorState) -> Interrupts
-        ensures { result ≡ causes_between raw self new }
+    pub(crate) fn causes(self, by_bytes: bool, new: ErrorState) -> Interrupts
+        ensures { result ≡ causes_between by_bytes self new }
     {
         Interrupts {
             ei: differ(self.es, new.es) | differ(self.bs, new.bs),
-            epi: differ(self.passive, new.passive) & !(raw & (!self.bs & new.bs)),
+            epi: differ(self.passive, new.passive) & !(by_bytes & (!self.bs & new.bs)),
             ..Interrupts::none()
         }
     }

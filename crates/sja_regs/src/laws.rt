@@ -15,7 +15,7 @@ ghost use Rattle.sja_regs.specs.Writing.{after_writing};
 ghost use Rattle.sja_regs.specs.Calls.{Call, after_calls};
 ghost use Rattle.sja_regs.specs.Histories.{IsUnread, IsNoRequest, first_lost, first_error};
 ghost use Rattle.sja_regs.specs.Histories.{either, enabled_causes, KeepPending, IsEarlier, some_release};
-ghost use Rattle.sja_regs.specs.Registers.{is_raw};
+ghost use Rattle.sja_regs.specs.Registers.{by_bytes};
 ghost use Rattle.sja_regs.specs.Histories.{read_back};
 
 /// Until ALC is read it has the first place where arbitration was lost since it was read last.
@@ -35,7 +35,7 @@ pub fn ecc_keeps_the_first_fault()
 pub fn ir_keeps_what_was_raised()
     ensures kept { (p : Registers) (calls : List Call) → IsUnread Interrupt calls → KeepPending p calls
         → (after_calls p calls).pending ≡ either (enabled_causes p calls) p.pending }
-    ensures earlier { (p : Registers) (calls : List Call) → is_raw p ≡ false → All IsEarlier calls
+    ensures earlier { (p : Registers) (calls : List Call) → by_bytes p ≡ false → All IsEarlier calls
         → IsUnread Interrupt calls
         → (after_calls p calls).pending ≡ either (enabled_causes p calls) p.pending }
 {}

@@ -1,5 +1,5 @@
 //! The bits of the registers, in the data sheet's letters: the number of each in its byte (SJA1000 data sheet, 6.4.3 to
-//! 6.4.9). No other file has a bit's number.
+//! 6.4.9). No other file of this crate has a bit's number.
 
 /// MOD, reset mode.
 pub const RM: u8 = 0;

@@ -15,7 +15,6 @@ mod capture;
 mod command;
 mod commanding;
 mod driver_settings;
-mod error_capture;
 mod error_state;
 mod interrupt_line;
 mod interrupts;
@@ -36,7 +35,6 @@ pub use bus_turn::BusTurn;
 pub use can_frame::BufferView;
 pub use command::Command;
 pub use driver_settings::DriverSettings;
-pub use error_capture::error_code;
 pub use interrupts::Interrupts;
 pub use laws::{
     alc_keeps_the_first_loss, ecc_keeps_the_first_fault, ir_keeps_what_was_raised,

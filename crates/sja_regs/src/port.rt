@@ -4,7 +4,7 @@ ghost use Rattle.std.specs.Prelude.{◌≡◌, true, if◌then◌else◌};
 
 use super::orders::Orders;
 use super::registers::Registers;
-use can_node::Config;
+use can_node_rules::Config;
 use std::marker::Model;
 
 /// The registers of an SJA1000 controller in PeliCAN mode, between its bus and its driver.
@@ -98,7 +98,7 @@ impl Port {
         let shown = self.registers.shown_state();
         let registers = &mut self.registers;
         registers.frozen = shown;
-        if registers.is_raw() {
+        if registers.by_bytes() {
             registers.pending = registers.pending.in_reset();
         }
         registers.mode.rm = true;

@@ -2,7 +2,8 @@
 
 ghost use Rattle.std.specs.Prelude.{◌≡◌};
 ghost use Rattle.sja_regs.specs.ErrorStates.{causes_between};
-ghost use Rattle.sja_regs.specs.Registers.{at_power_on, is_raw, error_state_of, shown_state, status_of, interrupts_in};
+ghost use Rattle.sja_regs.specs.Registers.{at_power_on, by_bytes, error_state_of, shown_state, status_of};
+ghost use Rattle.sja_regs.specs.Registers.{interrupts_in};
 ghost use Rattle.sja_regs.specs.Registers.{is_forced, gone_off, config_of};
 ghost use Rattle.sja_regs.specs.Writing.{is_first_version};
 
@@ -12,13 +13,13 @@ use super::interrupts::Interrupts;
 use super::mode::Mode;
 use super::status::Status;
 use can_frame::{BufferView, Filter};
-use can_node::{Config, ERROR_PASSIVE};
+use can_node_rules::{Config, ERROR_PASSIVE};
 
 /// A counter of this or more makes a node error passive.
 const PASSIVE: u8 = ERROR_PASSIVE as u8;
 
 /// The versions for drivers that know addresses and bytes alone begin here (this project's own rule).
-const RAW_FROM: u8 = 3;
+const FIRST_BY_BYTES: u8 = 3;
 
 /// TXERR written so asks for a bus-off (SJA1000 data sheet, 6.4.12).
 pub(crate) const FORCES_OFF: u8 = 255;
@@ -126,17 +127,17 @@ impl Registers {
     }
 
     /// Whether this version is one for drivers that know addresses and bytes alone.
-    pub fn is_raw(&self) -> bool
-        ensures { result ≡ is_raw self.now }
+    pub fn by_bytes(&self) -> bool
+        ensures { result ≡ by_bytes self.now }
     {
-        self.version >= RAW_FROM
+        self.version >= FIRST_BY_BYTES
     }
 
     /// Whether a bus-off is asked for: TXERR was written 255 in reset mode.
     pub fn is_forced(&self) -> bool
         ensures { result ≡ is_forced self.now }
     {
-        self.mode.rm && (self.is_raw() && (self.set_tec.is_some() && self.txerr == FORCES_OFF))
+        self.mode.rm && (self.by_bytes() && (self.set_tec.is_some() && self.txerr == FORCES_OFF))
     }
 
     /// Bus-off, as the counters and BS show it.
@@ -170,7 +171,8 @@ impl Registers {
         ensures { result ≡ error_state_of self.now }
     {
         ErrorState {
-            es: (self.txerr >= self.ewlr || self.rxerr >= self.ewlr) || (self.is_raw() && self.bs),
+            es: (self.txerr >= self.ewlr || self.rxerr >= self.ewlr)
+                || (self.by_bytes() && self.bs),
             bs: self.bs,
             passive: self.txerr >= PASSIVE || self.rxerr >= PASSIVE,
         }
@@ -180,7 +182,7 @@ impl Registers {
     pub fn shown_state(&self) -> ErrorState
         ensures { result ≡ shown_state self.now }
     {
-        if self.is_raw() && self.mode.rm {
+        if self.by_bytes() && self.mode.rm {
             self.frozen
         } else {
             self.error_state()
@@ -189,9 +191,9 @@ impl Registers {
 
     /// Which of EI and EPI have a cause, where the error state that was shown becomes the one that is shown now.
     pub fn error_causes(&self, before: ErrorState) -> Interrupts
-        ensures { result ≡ causes_between (is_raw self.now) before (shown_state self.now) }
+        ensures { result ≡ causes_between (by_bytes self.now) before (shown_state self.now) }
     {
-        before.causes(self.is_raw(), self.shown_state())
+        before.causes(self.by_bytes(), self.shown_state())
     }
 
     /// The status register.

@@ -4,18 +4,17 @@ ghost use Rattle.std.specs.Prelude.{◌≡◌, ◌↔◌, not, is_some, true, fa
 ghost use Rattle.sja_regs.specs.Interrupting.{pending_after};
 ghost use Rattle.sja_regs.specs.Turns.{is_live, is_sent, may_tell, stands_still, follows_node, code_of_fault};
 ghost use Rattle.sja_regs.specs.Turns.{after_turn};
-ghost use Rattle.sja_regs.specs.Keeping.{OnlyEnabled, HasLeft, KeepsActivation, BringsNoNews, SaysTheSame};
+ghost use Rattle.sja_regs.specs.Preservation.{OnlyEnabled, HasLeft, KeepsActivation, BringsNoNews, SaysTheSame};
 ghost use Rattle.sja_regs.specs.Inside.TurnParts.{with_role, with_counters, with_news, HasCounted};
 ghost use Rattle.sja_regs.specs.Inside.TurnParts.{activity, with_captures, after_settling};
 
 use super::bus_turn::BusTurn;
 use super::capture::Capture;
-use super::error_capture::error_code;
 use super::interrupts::Interrupts;
 use super::port::Port;
 use super::registers::Registers;
-use can_bits::Segment;
-use can_node::{BitEvents, Cause, Outcome, Phase};
+use can_levels::Segment;
+use can_node_rules::{BitEvents, Cause, Outcome, Phase, error_code};
 
 impl Port {
     /// Takes what one bit of the bus brought.
@@ -85,7 +84,7 @@ impl Port {
         ensures { result ≡ stands_still self.now turn.now }
     {
         let registers = &self.registers;
-        registers.is_raw() && (registers.mode.rm || turn.activation != registers.activation)
+        registers.by_bytes() && (registers.mode.rm || turn.activation != registers.activation)
     }
 
     /// RXERR, TXERR and BS, where they are the node's, and the interrupts that hang on them.
@@ -112,7 +111,7 @@ impl Port {
         ensures { result ≡ follows_node self.now turn.now }
     {
         let registers = &self.registers;
-        !registers.is_raw()
+        !registers.by_bytes()
             || (turn.activation == registers.activation
                 && !(registers.set_tec.is_some() | registers.set_rec.is_some()))
     }
@@ -180,7 +179,7 @@ impl Registers {
     fn may_tell(&self, capture: Capture) -> bool
         ensures { result ≡ may_tell self.now capture }
     {
-        capture.was_read || !self.is_raw()
+        capture.was_read || !self.by_bytes()
     }
 }
 

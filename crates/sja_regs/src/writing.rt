@@ -2,9 +2,9 @@
 
 ghost use Rattle.std.specs.Prelude.{◌≡◌, ◌<◌, true, OnOk, OnErr};
 ghost use Rattle.sja_regs.specs.Addresses.{register_at, IsPlace};
-ghost use Rattle.sja_regs.specs.Keeping.{OnlyEnabled};
+ghost use Rattle.sja_regs.specs.Preservation.{OnlyEnabled};
 ghost use Rattle.sja_regs.specs.Refusals.{first_fault, fault_of};
-ghost use Rattle.sja_regs.specs.Registers.{is_raw};
+ghost use Rattle.sja_regs.specs.Registers.{by_bytes};
 ghost use Rattle.sja_regs.specs.Writing.{mode_faults, write_faults, write_faults_at, after_writing, after_writing_at};
 ghost use Rattle.sja_regs.specs.Writing.{with_warning_limit, with_mode, with_rxerr, with_txerr};
 ghost use Rattle.sja_regs.specs.Writing.{after_forced_off, load_faults, after_loading, Carries};
@@ -101,7 +101,7 @@ impl Port {
 
     /// The bus-off that was asked for: EI comes, where it has a cause, and no other interrupt.
     fn go_off(&mut self)
-        requires raw { is_raw self.old ≡ true }
+        requires bytes { by_bytes self.old ≡ true }
         requires reset { self.old.mode.rm ≡ true }
         ensures off { self.new ≡ after_forced_off self.old }
         ensures enabled { OnlyEnabled self.old self.new }
@@ -119,7 +119,7 @@ impl Port {
     fn counter_fault(&self) -> Option<RegFault>
         ensures { result ≡ first_fault (write_faults self.now Register.TransmitErrorCounter 0) }
     {
-        if !self.registers.is_raw() {
+        if !self.registers.by_bytes() {
             Some(RegFault::ReadOnly)
         } else if !self.registers.mode.rm {
             Some(RegFault::ResetOnly)

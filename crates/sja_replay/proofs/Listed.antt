@@ -1,6 +1,2 @@
--- How far a list of happenings came, and which of them stands where.
+-- How far a list of bit events came, and which of them stands where.
 pub mod Coming
-pub mod PastBits
-pub mod BitEntries
-pub mod Stores
-pub mod FrontsPassed

@@ -1,22 +1,22 @@
 -- Bits of a frame that several nodes receive, having read just the same: one reader takes each level for all of them,
 -- and a node goes over to it behind them (this project's own rule).
 use Rattle.std.specs.Prelude.{◌≡◌, ◌<◌, ◌+◌, ◌^◌, Bool, true, false, Some, List}
-use Rattle.can_bits.specs.declared.level.Level.{Level}
-use Rattle.can_bits.specs.declared.level.Level.TheVariants.{Recessive}
-use Rattle.can_bits.specs.declared.segment.Segment.{Segment}
+use Rattle.can_levels.specs.declared.level.Level.{Level}
+use Rattle.can_levels.specs.declared.level.Level.TheVariants.{Recessive}
+use Rattle.can_levels.specs.declared.segment.Segment.{Segment}
 use Rattle.can_bits.specs.declared.shift.Shift.{Shift}
-use Rattle.can_bits.specs.Segments.{IsNext}
+use Rattle.can_levels.specs.Segments.{IsNext}
 use Rattle.can_bits.specs.Sending.{TakesInside}
 use Rattle.can_bits.specs.Shifts.{StandsFor}
-use Rattle.can_bits.specs.Streaming.{IsReadable}
+use Rattle.can_levels.specs.Streaming.{IsReadable}
 use Rattle.can_node.specs.declared.node.Node.{Node}
-use Rattle.can_node.specs.declared.phase.Phase.TheVariants.{Frame}
-use Rattle.can_node.specs.declared.role.Role.TheVariants.{Receiver}
+use Rattle.can_node_rules.specs.declared.phase.Phase.TheVariants.{Frame}
+use Rattle.can_node_rules.specs.declared.role.Role.TheVariants.{Receiver}
 use Rattle.can_node.specs.declared.stage.Stage.TheVariants.{InFrame}
 use Rattle.can_node.specs.Stands.{shown_counters}
 use Rattle.can_node.specs.Together.{kept_level, reading_as}
-use Rattle.sja_link.specs.declared.entry.Entry.{Entry}
-use Rattle.sja_link.specs.declared.entry.Entry.TheVariants.{Bit}
+use Rattle.sja_journal.specs.declared.entry.Entry.{Entry}
+use Rattle.sja_journal.specs.declared.entry.Entry.TheVariants.{Bit}
 use Rattle.sja_replay.specs.declared.replay.Replay.{Replay}
 use Rattle.sja_replay.specs.declared.short_bit.ShortBit.{ShortBit}
 use Rattle.sja_replay.specs.Replaying.{IsAt}

@@ -1,19 +1,19 @@
 -- A replay, and the journal that it has come through (this project's own rule).
 use Rattle.std.specs.Prelude.{◌≡◌, ◌≤◌, ◌<◌, ◌+◌, ◌^◌, Option, Some, None, List, [], ◌∷◌, ◌++◌, length}
-use Rattle.can_bits.specs.declared.level.Level.{Level}
+use Rattle.can_levels.specs.declared.level.Level.{Level}
 use Rattle.can_node.specs.Stands.{StandsAt}
-use Rattle.sja_link.specs.NodeWords.{FinishedPiece}
-use Rattle.sja_link.specs.declared.entry.Entry.{Entry}
-use Rattle.sja_link.specs.declared.entry.Entry.TheVariants.{Bit}
-use Rattle.sja_link.specs.Free.{IsFree}
+use Rattle.sja_journal.specs.NodeWords.{FinishedPiece}
+use Rattle.sja_journal.specs.declared.entry.Entry.{Entry}
+use Rattle.sja_journal.specs.declared.entry.Entry.TheVariants.{Bit}
+use Rattle.sja_journal.specs.Free.{IsFree}
 use Rattle.sja_replay.specs.Taking.{ends_in_abort, IsTaken, last_part}
-use Rattle.sja_link.specs.Places.{place_of}
-use Rattle.sja_link.specs.Records.{record_of}
-use Rattle.sja_replay.specs.declared.happening.Happening.{Happening}
+use Rattle.sja_journal.specs.Places.{place_of}
+use Rattle.sja_journal.specs.Records.{record_of}
+use Rattle.sja_replay.specs.declared.bit_event.BitEvent.{BitEvent}
 use Rattle.sja_replay.specs.declared.replay.Replay.{Replay}
 use Rattle.sja_replay.specs.Closing.{Closes}
 use Rattle.sja_replay.specs.Happened.{Happened}
-use Rattle.sja_replay.specs.Happening.{Brings}
+use Rattle.sja_replay.specs.BitEvent.{Brings}
 
 -- the entry that was looked at, before the others
 abbrev pub with_ahead : Option Entry → List Entry → List Entry
@@ -35,13 +35,13 @@ pub record IsAt (r : Replay) (before : List Entry) : Type 0 where
   pub free : IsFree (last_part before) r.free
   pub looked : r.ahead ≡ None → r.entries ≡ []
 
--- it went on to more entries, and whatever happenings those that are left have then, these come before them. Each bit
+-- it went on to more entries, and whatever bit events those that are left have then, these come before them. Each bit
 -- takes an entry at least
-pub record GoesOn (old new : Replay) (before : List Entry) (hs : List Happening) : Type 0 where
+pub record GoesOn (old new : Replay) (before : List Entry) (hs : List BitEvent) : Type 0 where
   pub now : List Entry
   pub at : IsAt new now
   pub fewer : length (left_of new) + length hs ≤ length (left_of old)
-  pub leads : (more : List Happening) → Happened now (left_of new) more → Happened before (left_of old) (hs ++ more)
+  pub leads : (more : List BitEvent) → Happened now (left_of new) more → Happened before (left_of old) (hs ++ more)
 
 -- after this journal each of these entries may come where it comes
 abbrev pub AreTaken : List Entry → List Entry → Type 0
@@ -50,7 +50,7 @@ AreTaken before (e ∷ es) = IsTaken before e × AreTaken (before ++ e ∷ []) e
 
 -- it went on to the next bit and past it: these entries came before the bit, this is what the bit brought, and these
 -- are the entries that it brought
-pub record TellsBit (old new : Replay) (before : List Entry) (h : Happening) : Type 0 where
+pub record TellsBit (old new : Replay) (before : List Entry) (h : BitEvent) : Type 0 where
   pub between : List Entry
   pub taken : AreTaken before between
   pub driven : Level
@@ -60,6 +60,6 @@ pub record TellsBit (old new : Replay) (before : List Entry) (h : Happening) : T
   pub few : (place_of (before ++ between)).bits + 1 < 2 ^ 32
   pub brings : Brings (before ++ between) driven seen h
   pub brought : List Entry
-  pub closes : Closes (last_part ((before ++ between) ++ Bit driven seen ∷ [])) h.events rest h.fate brought
+  pub closes : Closes (last_part ((before ++ between) ++ Bit driven seen ∷ [])) h.events rest h.reception brought
       (left_of new)
   pub at : IsAt new (((before ++ between) ++ Bit driven seen ∷ []) ++ brought)

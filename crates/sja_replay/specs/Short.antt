@@ -1,13 +1,14 @@
 -- What a bit brought that told nothing, in short (this project's own rule).
 use Rattle.std.specs.Prelude.{◌≡◌, false, None, List, [], ◌∷◌}
-use Rattle.can_bits.specs.declared.level.Level.{Level}
-use Rattle.can_bits.specs.declared.level.Level.TheVariants.{Recessive}
+use Rattle.can_levels.specs.declared.level.Level.{Level}
+use Rattle.can_levels.specs.declared.level.Level.TheVariants.{Recessive}
 use Rattle.can_node.specs.declared.node.Node.{Node}
-use Rattle.can_node.specs.declared.phase.Phase.TheVariants.{Idle}
+use Rattle.can_node_rules.specs.declared.phase.Phase.TheVariants.{Idle}
 use Rattle.can_node.specs.NextField.{ShowsSegment, ShowsRole, ShowsFlag}
-use Rattle.can_node.specs.Stands.{ShowsPhase, ShowsCounters, nothing}
-use Rattle.sja_link.specs.declared.entry.Entry.{Entry}
-use Rattle.sja_replay.specs.declared.happening.Happening.{Happening}
+use Rattle.can_node.specs.Stands.{ShowsPhase, ShowsCounters}
+use Rattle.can_node_rules.specs.Outcomes.{nothing}
+use Rattle.sja_journal.specs.declared.entry.Entry.{Entry}
+use Rattle.sja_replay.specs.declared.bit_event.BitEvent.{BitEvent}
 use Rattle.sja_replay.specs.declared.replay.Replay.{Replay}
 use Rattle.sja_replay.specs.declared.short_bit.ShortBit.{ShortBit}
 use Rattle.sja_replay.specs.Replaying.{GoesOn, TellsBit}
@@ -18,7 +19,7 @@ IsNoStart q = q.phase ≡ Idle → (q.driven ≡ Recessive) × (q.seen ≡ Reces
 
 -- these are the levels, the node showed this before the bit, the bit told nothing, and phase and counters stay. No
 -- abort changed the node right before it, and no frame was received with it
-pub record IsInShort (h : Happening) (q : ShortBit) : Type 0 where
+pub record IsInShort (h : BitEvent) (q : ShortBit) : Type 0 where
   pub driven : h.driven ≡ q.driven
   pub seen : h.seen ≡ q.seen
   pub aborted : h.aborted ≡ false
@@ -30,7 +31,7 @@ pub record IsInShort (h : Happening) (q : ShortBit) : Type 0 where
   pub told : h.events ≡ nothing h.events.receiving
   pub phase_stays : h.after.phase ≡ q.phase
   pub counters_stay : h.after.counters ≡ q.counters
-  pub fate : h.fate ≡ None
+  pub reception : h.reception ≡ None
   pub no_start : IsNoStart q
 
 -- what a node shows of a bit with these levels
@@ -46,7 +47,7 @@ pub record LooksAt (node : Node) (driven seen : Level) (q : ShortBit) : Type 0 w
 -- the replay went on past one bit, as `next` does, and what the bit brought is this in short. Its number is how many
 -- bits came before
 pub record PassesBit (old new : Replay) (before : List Entry) (q : ShortBit) : Type 0 where
-  pub happened : Happening
+  pub happened : BitEvent
   pub short : IsInShort happened q
   pub goes : GoesOn old new before (happened ∷ [])
   pub tells : TellsBit old new before happened

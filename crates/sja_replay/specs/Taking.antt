@@ -1,20 +1,20 @@
 -- What a node takes between two bits, by a cut of its record (this project's own rule).
 use Rattle.std.specs.Prelude.{◌≡◌, ◌≢◌, ◌+◌, ◌≤◌, Bool, true, false, None, List, [], ◌∷◌}
-use Rattle.can_node.specs.declared.abort_outcome.AbortOutcome.TheVariants.{Unchanged}
-use Rattle.can_node.specs.declared.phase.Phase.TheVariants.{Reset}
-use Rattle.can_node.specs.Pieces.Place.{AtReset}
-use Rattle.can_node.specs.Effects.{is_in_progress}
-use Rattle.can_node.specs.NextBit.{now_in, phase_in}
-use Rattle.can_node.specs.Stands.{abort_of}
+use Rattle.can_node_rules.specs.declared.abort_outcome.AbortOutcome.TheVariants.{Unchanged}
+use Rattle.can_node_rules.specs.declared.phase.Phase.TheVariants.{Reset}
+use Rattle.can_node_rules.specs.Pieces.Place.{AtReset}
+use Rattle.can_node_rules.specs.Effects.{is_in_progress}
+use Rattle.can_node_rules.specs.NextBit.{now_in, phase_in}
+use Rattle.can_node_rules.specs.Outcomes.{abort_of}
 use Rattle.lemmas.specs.Gathering.{total}
-use Rattle.sja_link.specs.NodeWords.{NodeEntry, FinishedPiece, IsCut}
-use Rattle.sja_link.specs.declared.up.Up.TheVariants.{Start, Credit, Send, Stop}
-use Rattle.sja_link.specs.declared.entry.Entry.{Entry}
-use Rattle.sja_link.specs.declared.entry.Entry.TheVariants.{Bit, Up as Item, Abort, Stored, Overrun, Off}
-use Rattle.sja_link.specs.Free.{credit_in, bytes_in}
-use Rattle.sja_link.specs.Parts.{part}
-use Rattle.sja_link.specs.Places.{place_of}
-use Rattle.sja_link.specs.Records.{record_of}
+use Rattle.sja_journal.specs.NodeWords.{NodeEntry, FinishedPiece, IsCut}
+use Rattle.sja_journal.specs.declared.up.Up.TheVariants.{Start, Credit, Send, Stop}
+use Rattle.sja_journal.specs.declared.entry.Entry.{Entry}
+use Rattle.sja_journal.specs.declared.entry.Entry.TheVariants.{Bit, Up as Item, Abort, Stored, Overrun, Off}
+use Rattle.sja_journal.specs.Free.{credit_in, bytes_in}
+use Rattle.sja_journal.specs.Parts.{part}
+use Rattle.sja_journal.specs.Places.{place_of}
+use Rattle.sja_journal.specs.Records.{record_of}
 
 -- the part of the activation that was begun last
 abbrev pub last_part : List Entry → List Entry

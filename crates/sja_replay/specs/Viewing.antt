@@ -1,11 +1,11 @@
 -- What a node shows of its next bit, by a cut of its record (this project's own rule).
 use Rattle.std.specs.Prelude.{◌≡◌, List}
 use Rattle.can_node.specs.declared.node.Node.{Node}
-use Rattle.can_node.specs.Context.{is_transmitter}
-use Rattle.can_node.specs.NextBit.{now_in, phase_in}
+use Rattle.can_node_rules.specs.Context.{is_transmitter}
+use Rattle.can_node_rules.specs.NextBit.{now_in, phase_in}
 use Rattle.can_node.specs.NextField.{SegmentIn}
 use Rattle.can_node.specs.Stands.{StandsAt}
-use Rattle.sja_link.specs.NodeWords.{NodeEntry, FinishedPiece, IsCut}
+use Rattle.sja_journal.specs.NodeWords.{NodeEntry, FinishedPiece, IsCut}
 use Rattle.sja_replay.specs.declared.view.View.{View}
 
 -- phase and segment of the next bit, and role, error counters, request and flag as they stand in it

@@ -3,12 +3,12 @@
 ghost use Rattle.std.specs.Prelude.{◌≡◌};
 
 use super::replay::Replay;
-use can_node::{AbortOutcome, Config, Phase, Request};
-use sja_link::{Entry, RECEIVE_FIFO, Up};
+use can_node_rules::{AbortOutcome, Config, Phase, Request};
+use sja_journal::{Entry, RECEIVE_FIFO, Up};
 
 impl<'a> Replay<'a> {
-    ghost use Rattle.sja_link.specs.declared.entry.Entry.TheVariants.{Up as Item, Abort};
-    ghost use Rattle.sja_link.specs.declared.up.Up.TheVariants.{Start, Credit, Send, Stop};
+    ghost use Rattle.sja_journal.specs.declared.entry.Entry.TheVariants.{Up as Item, Abort};
+    ghost use Rattle.sja_journal.specs.declared.up.Up.TheVariants.{Start, Credit, Send, Stop};
     ghost use Rattle.sja_replay.specs.Inside.Walking.{Enters};
 
     /// An entry that is no bit, where it may come there. Answers whether it may; else the replay goes no further.

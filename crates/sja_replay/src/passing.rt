@@ -1,17 +1,17 @@
 //! The quick way past a bit: in most bits nothing happens that is told.
 
 ghost use Rattle.std.specs.Prelude.{◌≡◌, Some};
-ghost use Rattle.sja_link.specs.declared.entry.Entry.TheVariants.{Bit};
+ghost use Rattle.sja_journal.specs.declared.entry.Entry.TheVariants.{Bit};
 
 use super::replay::{Replay, is_same};
 use super::short_bit::ShortBit;
-use can_bits::Level;
-use sja_link::Entry;
+use can_levels::Level;
+use sja_journal::Entry;
 
 impl<'a> Replay<'a> {
     ghost use Rattle.std.specs.Prelude.{◌≡◌, ◌<◌, None, Some, List, IfSome, length};
-    ghost use Rattle.sja_link.specs.declared.entry.Entry.{Entry as Item};
-    ghost use Rattle.sja_link.specs.declared.entry.Entry.TheVariants.{Bit};
+    ghost use Rattle.sja_journal.specs.declared.entry.Entry.{Entry as Item};
+    ghost use Rattle.sja_journal.specs.declared.entry.Entry.TheVariants.{Bit};
     ghost use Rattle.sja_replay.specs.Replaying.{left_of, IsAt};
     ghost use Rattle.sja_replay.specs.Silent.{PassesSilently};
     ghost use Rattle.sja_replay.specs.Short.{LooksAt, PassesBit};

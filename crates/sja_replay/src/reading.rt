@@ -4,9 +4,10 @@ ghost use Rattle.std.specs.Prelude.{◌≡◌, ◌<◌, ◌+◌, ◌^◌, true};
 ghost use Rattle.can_node.specs.Together.{reader_of};
 
 use super::replay::{Replay, is_same};
-use can_bits::{Level, Shift};
-use can_node::Counters;
-use sja_link::Entry;
+use can_bits::Shift;
+use can_levels::Level;
+use can_node_rules::Counters;
+use sja_journal::Entry;
 
 impl<'a> Replay<'a> {
     ghost use Rattle.can_node.specs.Stands.{ShowsCounters};

@@ -2,11 +2,11 @@
 
 ghost use Rattle.std.specs.Prelude.{◌≤◌, ◌≡◌, ◌≢◌, true, false, []};
 
-use super::happening::Happening;
+use super::bit_event::BitEvent;
 use super::view::View;
-use can_bits::Level;
+use can_levels::Level;
 use can_node::Node;
-use sja_link::{Entries, Entry, Journal, RECEIVE_FIFO};
+use sja_journal::{Entries, Entry, Journal, RECEIVE_FIFO};
 use std::mem;
 
 /// A journal gone over bit by bit, with a node that does what the journal says.
@@ -29,7 +29,7 @@ pub struct Replay<'a> {
 
 impl<'a> Replay<'a> {
     ghost use Rattle.std.specs.Prelude.{◌≡◌, ◌∷◌, [], List, None, IfSome, IfNone};
-    ghost use Rattle.sja_link.specs.declared.entry.Entry.{Entry as Item};
+    ghost use Rattle.sja_journal.specs.declared.entry.Entry.{Entry as Item};
     ghost use Rattle.sja_replay.specs.Happened.{Happened};
     ghost use Rattle.sja_replay.specs.Replaying.{left_of, IsAt, GoesOn, TellsBit};
     ghost use Rattle.sja_replay.specs.Inside.Walking.{IsTakenFrom, BringsNext};
@@ -56,7 +56,7 @@ impl<'a> Replay<'a> {
     ///
     /// Nothing where no bit is left, or where an entry comes that can't come there: then the journal is none that a bus
     /// writes. No entry is left then, and each further call answers nothing.
-    pub fn next(&mut self) -> Option<Happening>
+    pub fn next(&mut self) -> Option<BitEvent>
         ensures some { IfSome result (λ h. (before : List Item) → IsAt self.old before
             → GoesOn self.old self.new before (h ∷ [])) }
         ensures bit { IfSome result (λ h. (before : List Item) → IsAt self.old before
@@ -78,7 +78,7 @@ impl<'a> Replay<'a> {
     }
 
     /// Lets go of the entries that are left.
-    fn end(&mut self) -> Option<Happening>
+    fn end(&mut self) -> Option<BitEvent>
         ensures none { result ≡ None }
         ensures ends { left_of self.new ≡ [] }
     {
@@ -97,7 +97,7 @@ impl<'a> Replay<'a> {
 
     /// A bit, with the entries that it brought. Nothing where they aren't those, or the node drives another level; no
     /// entry is left then.
-    fn told_bit(&mut self, driven: Level, seen: Level) -> Option<Happening>
+    fn told_bit(&mut self, driven: Level, seen: Level) -> Option<BitEvent>
         ensures brings { BringsNext self.old self.new driven seen result }
         ensures ends { IfNone result (left_of self.new ≡ []) }
     {
@@ -114,10 +114,10 @@ impl<'a> Replay<'a> {
         self.aborted = false;
         let events = self.node.sample(seen);
         let after = View::of(&self.node);
-        let Ok(fate) = self.close(&events) else {
+        let Ok(reception) = self.close(&events) else {
             return self.end();
         };
-        Some(Happening {
+        Some(BitEvent {
             bit,
             driven,
             seen,
@@ -125,7 +125,7 @@ impl<'a> Replay<'a> {
             before,
             events,
             after,
-            fate,
+            reception,
         })
     }
 }

@@ -2,14 +2,14 @@
 
 use super::replay::{Replay, is_same};
 use super::short_bit::ShortBit;
-use can_bits::Level;
+use can_levels::Level;
 
 impl<'a> Replay<'a> {
     ghost use Rattle.std.specs.Prelude.{◌≡◌, ◌<◌, ◌≤◌, ℕ, suc, true, List};
-    ghost use Rattle.can_bits.specs.declared.level.Level.TheVariants.{Recessive};
-    ghost use Rattle.sja_link.specs.declared.entry.Entry.{Entry as Item};
+    ghost use Rattle.can_levels.specs.declared.level.Level.TheVariants.{Recessive};
+    ghost use Rattle.sja_journal.specs.declared.entry.Entry.{Entry as Item};
     ghost use Rattle.sja_replay.specs.Replaying.{IsAt};
-    ghost use Rattle.sja_replay.specs.Resting.{AwaitsRest, RestsFor, rested};
+    ghost use Rattle.sja_replay.specs.ReplayRest.{AwaitsRest, RestsFor, rested};
     ghost use Rattle.sja_replay.specs.Short.{LooksAt, PassesBit};
 
     /// For how many of the next bits, at most so many, the node stays at rest: it is in reset, or the bus is idle and

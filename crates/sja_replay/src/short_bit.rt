@@ -1,8 +1,8 @@
 //! [`ShortBit`]: what a bit brought that told nothing.
 
 use super::replay::is_same;
-use can_bits::{Level, Segment};
-use can_node::{Counters, FlagKind, Phase};
+use can_levels::{Level, Segment};
+use can_node_rules::{Counters, FlagKind, Phase};
 
 /// What one bit of the bus brought to a node, where it told nothing and the node went on as it was.
 ///

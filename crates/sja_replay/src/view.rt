@@ -1,7 +1,8 @@
 //! What a node shows of its next bit.
 
-use can_bits::Segment;
-use can_node::{Counters, FlagKind, Node, Phase, Request};
+use can_levels::Segment;
+use can_node::Node;
+use can_node_rules::{Counters, FlagKind, Phase, Request};
 
 /// What a node shows of its next bit.
 #[derive(Debug, PartialEq, Eq, Drop)]

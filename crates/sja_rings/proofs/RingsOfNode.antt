@@ -5,8 +5,8 @@ use Rattle.std.specs.Prelude.{slice_get, Result, Ok, Err, OnOk, OnErr, IfSome, I
 use Rattle.lemmas.specs.Related.{EachRelated}
 use Rattle.lemmas.proofs.Related.{each_one}
 use Rattle.sja_link.specs.declared.link_id.LinkId.{LinkId}
-use Rattle.sja_link.specs.declared.sizes.TheConstants.{ITEMS_DOWN, ITEMS_UP}
-use Rattle.sja_link.specs.Lists.{Lists, nothing_yet}
+use Rattle.sja_journal.specs.declared.sizes.TheConstants.{ITEMS_DOWN, ITEMS_UP}
+use Rattle.sja_journal.specs.Lists.{Lists, nothing_yet}
 use Rattle.sja_rings.specs.declared.ring_bus.RingBus.{RingBus}
 use Rattle.sja_rings.specs.declared.ring_driver.RingDriver.{RingDriver}
 use Rattle.sja_rings.specs.Ends.{BusLists, DriverLists, OneLink, link_of_bus, places_down, places_up}

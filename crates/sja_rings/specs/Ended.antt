@@ -1,7 +1,7 @@
 -- The two ends of a link after their last acts (this project's own rule).
 use Rattle.std.specs.Prelude.{◌≡◌, IfSome, IsSome}
 use Rattle.rtrb.specs.Ring.{received, all_sent, Finishes, IsFinishedOf}
-use Rattle.sja_link.specs.Lists.{Lists}
+use Rattle.sja_journal.specs.Lists.{Lists}
 use Rattle.sja_rings.specs.declared.ring_bus.RingBus.{RingBus}
 use Rattle.sja_rings.specs.declared.ring_driver.RingDriver.{RingDriver}
 use Rattle.sja_rings.specs.declared.ended_bus.EndedBus.{EndedBus}

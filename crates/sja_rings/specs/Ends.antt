@@ -1,10 +1,10 @@
 -- The two ends of a link of two rings (this project's own rule).
 use Rattle.std.specs.Prelude.{◌≡◌, ◌+◌, ◌≤◌, ℕ, List, length}
 use Rattle.rtrb.specs.Ring.{sent, received, known_free, known_items, IsPair, SameProducer, SameConsumer}
-use Rattle.sja_link.specs.declared.down.Down.{Down}
-use Rattle.sja_link.specs.declared.up.Up.{Up}
+use Rattle.sja_journal.specs.declared.down.Down.{Down}
+use Rattle.sja_journal.specs.declared.up.Up.{Up}
 use Rattle.sja_link.specs.declared.link_id.LinkId.{LinkId}
-use Rattle.sja_link.specs.Lists.{Lists}
+use Rattle.sja_journal.specs.Lists.{Lists}
 use Rattle.sja_rings.specs.declared.ring_bus.RingBus.{RingBus}
 use Rattle.sja_rings.specs.declared.ring_driver.RingDriver.{RingDriver}
 

@@ -1,8 +1,8 @@
 -- The two ends of a node's links, each link of two rings (this project's own rule).
 use Rattle.std.specs.Prelude.{◌≡◌, ◌<◌, ℕ, zero, suc, Option, Some, None, List, [], length, slice_get, slice_index_or}
 use Rattle.lemmas.specs.Related.{EachRelated}
-use Rattle.sja_link.specs.declared.sizes.TheConstants.{ACTIVATIONS, ITEMS_DOWN, ITEMS_UP}
-use Rattle.sja_link.specs.Lists.{Lists, nothing_yet}
+use Rattle.sja_journal.specs.declared.sizes.TheConstants.{ACTIVATIONS, ITEMS_DOWN, ITEMS_UP}
+use Rattle.sja_journal.specs.Lists.{Lists, nothing_yet}
 use Rattle.sja_rings.specs.declared.ring_bus.RingBus.{RingBus}
 use Rattle.sja_rings.specs.declared.ring_driver.RingDriver.{RingDriver}
 use Rattle.sja_rings.specs.declared.node_bus.NodeBus.{NodeBus}

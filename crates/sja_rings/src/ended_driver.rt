@@ -2,10 +2,10 @@
 
 ghost use Rattle.std.specs.Prelude.{◌≡◌};
 ghost use Rattle.rtrb.specs.Ring.{consumer_capacity};
-ghost use Rattle.sja_link.specs.declared.sizes.TheConstants.{ITEMS_DOWN};
+ghost use Rattle.sja_journal.specs.declared.sizes.TheConstants.{ITEMS_DOWN};
 
 use rtrb::{Consumer, Finished};
-use sja_link::{Down, Up};
+use sja_journal::{Down, Up};
 
 /// The driver's end of a link of two rings after its last act (this project's own rule): nothing is given any more.
 ///
@@ -15,17 +15,4 @@ pub struct EndedDriver {
     pub(crate) down: Consumer<Down>,
     pub(crate) note: Option<Finished<Up>>,
     ghost size: { consumer_capacity down ≡ ITEMS_DOWN },
-}
-
-impl EndedDriver {
-    ghost use Rattle.std.specs.Prelude.{◌↔◌, IsTrue};
-    ghost use Rattle.sja_rings.specs.Ended.{HasDriverNote};
-
-    /// Whether the ring up gave its closing note. It gives none where the bus's end is gone already.
-    /// [`settle`](crate::settle) looks itself, so tests alone ask.
-    pub fn has_note(&self) -> bool
-        ensures { IsTrue result ↔ HasDriverNote self.now }
-    {
-        self.note.is_some()
-    }
 }

@@ -1,6 +1,6 @@
 //! The last act of each end of a link.
 
-ghost use Rattle.sja_link.specs.Lists.{Lists};
+ghost use Rattle.sja_journal.specs.Lists.{Lists};
 ghost use Rattle.sja_rings.specs.Ends.{BusLists, DriverLists};
 ghost use Rattle.sja_rings.specs.Ended.{EndsBus, EndsDriver, EndedBusLists, EndedDriverLists};
 

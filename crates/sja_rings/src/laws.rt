@@ -1,8 +1,8 @@
 //! Laws of the two ends of a link.
 
 ghost use Rattle.std.specs.Prelude.{◌≡◌, ◌≤◌, length};
-ghost use Rattle.sja_link.specs.declared.sizes.TheConstants.{ITEMS_DOWN, ITEMS_UP};
-ghost use Rattle.sja_link.specs.Lists.{Lists, nothing_yet};
+ghost use Rattle.sja_journal.specs.declared.sizes.TheConstants.{ITEMS_DOWN, ITEMS_UP};
+ghost use Rattle.sja_journal.specs.Lists.{Lists, nothing_yet};
 ghost use Rattle.sja_rings.specs.declared.ring_bus.RingBus.{RingBus};
 ghost use Rattle.sja_rings.specs.declared.ring_driver.RingDriver.{RingDriver};
 ghost use Rattle.sja_rings.specs.declared.ended_bus.EndedBus.{EndedBus};

@@ -2,7 +2,7 @@
 
 ghost use Rattle.std.specs.Prelude.{◌≡◌, ◌↔◌, ◌++◌, IsOk, IfOk};
 ghost use Rattle.rtrb.specs.Ring.{received, all_sent, consumer_capacity, IsFinishedOf};
-ghost use Rattle.sja_link.specs.Lists.{Lists};
+ghost use Rattle.sja_journal.specs.Lists.{Lists};
 ghost use Rattle.sja_rings.specs.Ended.{OneEnded, HasBusNote, HasDriverNote, EndedBusLists, EndedDriverLists};
 ghost use Rattle.sja_rings.specs.Left.{IsLeft};
 
@@ -12,7 +12,7 @@ use super::missing_note::MissingNote;
 use super::remainder::Remainder;
 use arrayvec::ArrayVec;
 use rtrb::{Consumer, Finished};
-use sja_link::{Down, ITEMS_DOWN, ITEMS_UP, Up};
+use sja_journal::{Down, ITEMS_DOWN, ITEMS_UP, Up};
 
 /// What was left on a link, once both ends have done their last act: what was got and then this is what was put, and
 /// what was taken and then this is what was given. Both ends come from one [`ring_pair`](crate::ring_pair), and may

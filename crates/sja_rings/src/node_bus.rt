@@ -2,7 +2,8 @@
 
 use super::places::place_of;
 use super::ring_bus::RingBus;
-use sja_link::{BusEnd, Down, Up};
+use sja_journal::{Down, Up};
+use sja_link::BusEnd;
 
 /// The bus's end of a node's links (this project's own rule): an end of a link of two rings for each activation from 1
 /// on, as many as there are. It is the bus's end of no other link: there it gives each item back, and shows nothing.
@@ -18,7 +19,7 @@ impl BusEnd for NodeBus {
     ghost use Rattle.sja_rings.specs.Ends.{SameBus};
     ghost use Rattle.sja_rings.specs.NodeRings.{node_of_bus, links_of_bus, rings_of_bus, NodeBusLists, SameNodeBus};
     ghost use Rattle.sja_rings.specs.NodeRings.{HasNoPlaceDown, ShowsNothingUp};
-    ghost use Rattle.sja_rings.specs.Inside.Carrying.{bus_refl, bus_trans, as_many_links};
+    ghost use Rattle.sja_rings.specs.Carrying.{bus_refl, bus_trans, as_many_links};
 
     ghost node = { node_of_bus };
 

@@ -2,7 +2,8 @@
 
 use super::places::place_of;
 use super::ring_driver::RingDriver;
-use sja_link::{Down, DriverEnd, Up};
+use sja_journal::{Down, Up};
+use sja_link::DriverEnd;
 
 /// The driver's end of a node's links (this project's own rule): an end of a link of two rings for each activation from
 /// 1 on, as many as there are. It is the driver's end of no other link: there it shows nothing, and gives each item
@@ -19,7 +20,7 @@ impl DriverEnd for NodeDriver {
     ghost use Rattle.sja_rings.specs.Ends.{SameDriver};
     ghost use Rattle.sja_rings.specs.NodeRings.{node_of_driver, rings_of_driver, NodeDriverLists, SameNodeDriver};
     ghost use Rattle.sja_rings.specs.NodeRings.{HasNoPlaceUp, ShowsNothingDown};
-    ghost use Rattle.sja_rings.specs.Inside.Carrying.{driver_refl, driver_trans};
+    ghost use Rattle.sja_rings.specs.Carrying.{driver_refl, driver_trans};
 
     ghost node = { node_of_driver };
 

@@ -1,14 +1,15 @@
 //! The two ends of a node's links, as they are made.
 
 ghost use Rattle.std.specs.Prelude.{ℕ, IfOk};
-ghost use Rattle.sja_link.specs.Lists.{nothing_yet};
+ghost use Rattle.sja_journal.specs.Lists.{nothing_yet};
 ghost use Rattle.sja_rings.specs.NodeRings.{IsNewNodeBus, IsNewNodeDriver, OneNode, NodeBusLists, NodeDriverLists};
 
 use super::node_bus::NodeBus;
 use super::node_driver::NodeDriver;
 use super::pair::ring_pair;
 use can_frame::OutOfMemory;
-use sja_link::{ACTIVATIONS, LinkId};
+use sja_journal::ACTIVATIONS;
+use sja_link::LinkId;
 use std::alloc::Global;
 
 /// The two ends of a node's links, of each of 64 activations, with nothing on them. All their room is made here.

@@ -1,14 +1,15 @@
 //! The two ends of a link of two rings, as they are made.
 
 ghost use Rattle.std.specs.Prelude.{◌≡◌, IfOk};
-ghost use Rattle.sja_link.specs.Lists.{nothing_yet};
+ghost use Rattle.sja_journal.specs.Lists.{nothing_yet};
 ghost use Rattle.sja_rings.specs.Ends.{link_of_bus, BusLists, DriverLists, OneLink, places_down, places_up};
 
 use super::ring_bus::RingBus;
 use super::ring_driver::RingDriver;
 use can_frame::OutOfMemory;
 use rtrb::RingBuffer;
-use sja_link::{ITEMS_DOWN, ITEMS_UP, LinkId};
+use sja_journal::{ITEMS_DOWN, ITEMS_UP};
+use sja_link::LinkId;
 use std::alloc::Global;
 
 /// The two ends of one link, with nothing on it. All its room is made here.

@@ -1,7 +1,7 @@
 //! What was left on a link.
 
 use arrayvec::ArrayVec;
-use sja_link::{Down, ITEMS_DOWN, ITEMS_UP, Up};
+use sja_journal::{Down, ITEMS_DOWN, ITEMS_UP, Up};
 
 /// What was left on a link when both ends had done their last act, oldest first (this project's own rule).
 #[derive(Debug, PartialEq, Eq, Drop)]

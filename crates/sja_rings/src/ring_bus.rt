@@ -2,10 +2,11 @@
 
 ghost use Rattle.std.specs.Prelude.{◌≡◌};
 ghost use Rattle.rtrb.specs.Ring.{producer_capacity, consumer_capacity};
-ghost use Rattle.sja_link.specs.declared.sizes.TheConstants.{ITEMS_DOWN, ITEMS_UP};
+ghost use Rattle.sja_journal.specs.declared.sizes.TheConstants.{ITEMS_DOWN, ITEMS_UP};
 
 use rtrb::{Consumer, Producer, PushError};
-use sja_link::{Down, LinkId, Up};
+use sja_journal::{Down, Up};
+use sja_link::LinkId;
 
 /// The bus's end of a link of two rings (this project's own rule): 22 places down, 24 up.
 ///
@@ -21,7 +22,7 @@ pub struct RingBus {
 
 impl RingBus {
     ghost use Rattle.std.specs.Prelude.{◌≡◌, [], IfErr, IfSome, OnOk, OnErr, IfNone};
-    ghost use Rattle.sja_link.specs.Lists.{Lists, with_put, with_taken};
+    ghost use Rattle.sja_journal.specs.Lists.{Lists, with_put, with_taken};
     ghost use Rattle.sja_rings.specs.Ends.{link_of_bus, BusLists, SameBus, places_down, shown_up};
 
     /// Which link it is of. Tests alone ask.

@@ -2,10 +2,11 @@
 
 ghost use Rattle.std.specs.Prelude.{◌≡◌};
 ghost use Rattle.rtrb.specs.Ring.{producer_capacity, consumer_capacity};
-ghost use Rattle.sja_link.specs.declared.sizes.TheConstants.{ITEMS_DOWN, ITEMS_UP};
+ghost use Rattle.sja_journal.specs.declared.sizes.TheConstants.{ITEMS_DOWN, ITEMS_UP};
 
 use rtrb::{Consumer, Producer, PushError};
-use sja_link::{Down, LinkId, Up};
+use sja_journal::{Down, Up};
+use sja_link::LinkId;
 
 /// The driver's end of a link of two rings (this project's own rule): 22 places down, 24 up.
 ///
@@ -21,7 +22,7 @@ pub struct RingDriver {
 
 impl RingDriver {
     ghost use Rattle.std.specs.Prelude.{◌≡◌, [], IfErr, IfSome, OnOk, OnErr, IfNone};
-    ghost use Rattle.sja_link.specs.Lists.{Lists, with_got, with_given};
+    ghost use Rattle.sja_journal.specs.Lists.{Lists, with_got, with_given};
     ghost use Rattle.sja_rings.specs.Ends.{link_of_driver, DriverLists, SameDriver, places_up, shown_down};
 
     /// Which link it is of. Tests alone ask.

@@ -6,7 +6,7 @@ use Rattle.std.specs.Str.{bytes_eq}
 use Rattle.std.proofs.lemmas.Slice.Eq.{bytes_eq-Decides}
 use Rattle.std.specs.Prelude.{slice_get}
 use Rattle.std.specs.List.{join_with_byte}
-use Rattle.std.proofs.lemmas.List.{take_all, take_more_same}
+use Rattle.std.proofs.lemmas.List.{take_more_same}
 use Rattle.std.proofs.lemmas.List.Splits.{join_with_byte-slice_split}
 use Rattle.std.proofs.lemmas.Option.{slice_get-get_or, slice_get_past}
 use Rattle.sja_run.specs.Difference.{lines_in}
@@ -60,7 +60,3 @@ other_length xs ys n (inr past) within both other =
 pub same_text : (a b : List ℕ) → lines_in a ≡ lines_in b → a ≡ b
 same_text a b same =
     sym (join_with_byte-slice_split 10 a) ∙ ap (join_with_byte 10) same ∙ join_with_byte-slice_split 10 b
-
--- as many lines that are all the same
-pub all_same : (xs ys : List (List ℕ)) (n : ℕ) → length xs ≤ n → length ys ≤ n → take n xs ≡ take n ys → xs ≡ ys
-all_same xs ys n few fewer same = sym (take_all n xs few) ∙ same ∙ take_all n ys fewer

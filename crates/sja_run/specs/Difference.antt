@@ -4,7 +4,7 @@ use Rattle.std.specs.Prelude.{List, [], ◌∷◌, ◌++◌, length, take, fold,
 use Rattle.std.specs.List.{slice_split, starts_with}
 use Rattle.sja_plan.specs.Plan.{PlanValue, steps_at}
 use Rattle.sja_plan_text.specs.Texts.{spelled_step}
-use Rattle.sja_script.specs.declared.step.Step.{Step}
+use Rattle.sja_steps.specs.declared.step.Step.{Step}
 use Rattle.sja_run.specs.declared.report_place.ReportPlace.{ReportPlace}
 
 -- the lines of a text: what line feeds part, and what stands behind the last one

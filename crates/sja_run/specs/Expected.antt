@@ -1,17 +1,18 @@
 -- What `run --expect` does over a plan and the report that is expected of it (this project's own rule).
 use Rattle.std.specs.Prelude.{◌≡◌, ◌⊎◌, ◌∷◌, ℕ, Bool, true, false, List, [], Option, Some, None}
 use Rattle.std.specs.Io.KnownBytes.{Appends}
-use Rattle.sja_plan.specs.Limits.{begins_raw}
+use Rattle.sja_plan_reading.specs.DocumentLimits.{begins_by_bytes}
 use Rattle.sja_plan.specs.Plan.{PlanValue}
-use Rattle.sja_places.specs.PlanRead.{IsRunPlan}
-use Rattle.sja_texts.specs.declared.command_refusal.CommandRefusal.TheVariants.{OutOfMemory}
-use Rattle.sja_run.specs.Check.{IsExplained}
+use Rattle.sja_placed_strikes.specs.PlanRead.{IsRunPlan}
+use Rattle.text_codec.specs.declared.command_refusal.CommandRefusal.TheVariants.{OutOfMemory}
+use Rattle.sja_program.specs.Check.{IsExplained}
 use Rattle.sja_run.specs.Difference.{IsCompared}
-use Rattle.sja_run.specs.Files.{IsReadAs, IsUnread, RefusesTextIn, printed_of, refused_of, status_of}
-use Rattle.sja_run.specs.RunText.{IsTextOfRun}
+use Rattle.sja_program.specs.PlanTexts.{RefusesTextIn}
+use Rattle.sja_run.specs.Files.{IsReadAs, IsUnread, printed_of, refused_of, status_of}
+use Rattle.sja_program.specs.RunText.{IsTextOfRun}
 use Rattle.sja_run.specs.declared.file_outcome.FileOutcome.{FileOutcome}
 use Rattle.sja_run.specs.declared.file_outcome.FileOutcome.TheVariants.{Printed, Told, Mistaken, Refused, Unreadable}
-use Rattle.sja_run.specs.declared.run_text.RunText.TheVariants.{Report}
+use Rattle.sja_program.specs.declared.run_text.RunText.TheVariants.{Report}
 
 -- this is said of the report of a run of the plan that these bytes are, beside the expected one
 abbrev pub HasReport : Bool → List ℕ → List ℕ → Option (List ℕ) → Type 0
@@ -24,7 +25,7 @@ HasReport threads bytes expected said =
 abbrev pub Meets : Bool → List ℕ → List ℕ → FileOutcome → Type 0
 Meets threads bytes expected (Printed text) = (text.items ≡ []) × HasReport threads bytes expected None
 Meets threads bytes expected (Told text) = HasReport threads bytes expected (Some text.items)
-Meets threads bytes expected (Mistaken text) = (begins_raw bytes ≡ true) × IsExplained bytes text.items
+Meets threads bytes expected (Mistaken text) = (begins_by_bytes bytes ≡ true) × IsExplained bytes text.items
 Meets threads bytes expected (Refused r) = RefusesTextIn threads Report bytes r
 Meets threads bytes expected Unreadable = ⊥
 

@@ -4,39 +4,25 @@ use Rattle.std.specs.Prelude.{◌≡◌, ◌⊎◌, ◌++◌, ◌∷◌, ℕ, Bo
 use Rattle.std.specs.Prelude.{codes, length, nat_lt, if◌then◌else◌}
 use Rattle.std.specs.List.{list_all}
 use Rattle.std.specs.Io.KnownBytes.{Appends, Keeps}
-use Rattle.sja_log.specs.Log.{RunValue}
-use Rattle.sja_plan.specs.Limits.{begins_raw}
-use Rattle.sja_plan.specs.Plan.{PlanValue}
-use Rattle.sja_places.specs.PlanRead.{IsRunPlan}
-use Rattle.sja_words.specs.declared.plan_question.PlanQuestion.{PlanQuestion}
-use Rattle.sja_words.specs.declared.plan_question.PlanQuestion.TheVariants as question
-use Rattle.sja_texts.specs.Refusal.{refusal_line}
-use Rattle.sja_texts.specs.declared.sweep_refusal.SweepRefusal.{SweepRefusal}
-use Rattle.sja_texts.specs.declared.command_refusal.CommandRefusal.{CommandRefusal}
-use Rattle.sja_texts.specs.declared.command_refusal.CommandRefusal.TheVariants as refusal
-use Rattle.sja_run.specs.Answer.{picture_or_drawing}
-use Rattle.sja_run.specs.Check.{IsExplained, IsFine, IsHinted}
+use Rattle.sja_plan_reading.specs.DocumentLimits.{begins_by_bytes}
+use Rattle.sja_command_line.specs.declared.plan_question.PlanQuestion.{PlanQuestion}
+use Rattle.sja_command_line.specs.declared.plan_question.PlanQuestion.TheVariants as question
+use Rattle.text_codec.specs.Refusal.{refusal_line}
+use Rattle.text_codec.specs.declared.command_refusal.CommandRefusal.{CommandRefusal}
+use Rattle.text_codec.specs.declared.command_refusal.CommandRefusal.TheVariants as refusal
+use Rattle.sja_program.specs.Answer.{picture_or_drawing}
+use Rattle.sja_program.specs.Check.{IsExplained, IsFine, IsHinted}
 use Rattle.sja_run.specs.Names.{shown_name}
-use Rattle.sja_run.specs.Input.{IsRead, IsReadFrom, RefusesInput}
-use Rattle.sja_run.specs.PlanDocument.{IsSpelling, RefusesSpelling}
-use Rattle.sja_run.specs.Run.{RefusesRunPlan}
-use Rattle.sja_run.specs.RunText.{IsRunOf, IsTextOfRun, IsTooLarge, MayFault}
-use Rattle.sja_run.specs.Registers.{IsTold, RefusesRegisters}
-use Rattle.sja_run.specs.Sweep.{IsStruck, IsSwept, RefusesStruck, RefusesSwept}
+use Rattle.sja_program.specs.Input.{IsRead, IsReadFrom, RefusesInput}
+use Rattle.sja_program.specs.PlanDocument.{IsSpelling, RefusesSpelling}
+use Rattle.sja_program.specs.Registers.{IsTold, RefusesRegisters}
+use Rattle.sja_program.specs.Sweep.{IsStruck, IsSwept, RefusesStruck, RefusesSwept}
 use Rattle.sja_run.specs.declared.file_outcome.FileOutcome.{FileOutcome}
 use Rattle.sja_run.specs.declared.file_outcome.FileOutcome.TheVariants.{Printed, Told, Mistaken, Refused, Unreadable}
-use Rattle.sja_run.specs.declared.run_text.RunText.{RunText}
-use Rattle.sja_run.specs.declared.run_text.RunText.TheVariants.{Report, Wave, Trace, Frames, Candump}
+use Rattle.sja_program.specs.declared.run_text.RunText.TheVariants.{Report, Wave, Trace, Frames, Candump}
+use Rattle.sja_program.specs.PlanTexts.{IsTextFor, IsTextIn, RefusesTextFor, RefusesTextIn}
 
 -- ---- the plan that some bytes are
-
--- the text is this one of a run of the plan that these bytes are: in threads (`true`) or in one
-abbrev pub IsTextIn : Bool → RunText → List ℕ → List ℕ → Type 0
-IsTextIn threads what bytes text = (plan : PlanValue) × IsRunPlan bytes plan × IsTextOfRun threads what plan text
-
--- the text is one of the plan that these bytes are
-abbrev pub IsTextFor : (PlanValue → List ℕ → Type 0) → List ℕ → List ℕ → Type 0
-IsTextFor Is bytes text = (plan : PlanValue) × IsRunPlan bytes plan × Is plan text
 
 -- the text is what was asked of that plan
 abbrev pub IsAnswer : PlanQuestion → List ℕ → List ℕ → Type 0
@@ -52,31 +38,6 @@ IsAnswer (question.StruckPlan node bit) bytes text = IsTextFor (IsStruck node bi
 IsAnswer (question.Check strict) bytes text = IsHinted bytes text × IsFine strict text
 IsAnswer (question.Registers bit) bytes text = IsTextFor (IsTold bit) bytes text
 IsAnswer question.Plan bytes text = IsSpelling bytes text
-
--- why there is none of these texts of a run of that plan, in threads (`true`) or in one. Memory may be refused at any
--- time. Else the bytes have this first fault, or they are a plan, and its run had this fault; or it was made, and the
--- drawing of its bits has more levels than may be drawn unasked
-abbrev pub RefusesTextIn : Bool → RunText → List ℕ → CommandRefusal → Type 0
-RefusesTextIn threads what bytes refusal.OutOfMemory = Unit {0}
-RefusesTextIn threads what bytes (refusal.Plan fault) = RefusesRunPlan bytes (refusal.Plan fault)
-RefusesTextIn threads what bytes (refusal.Place number) = RefusesRunPlan bytes (refusal.Place number)
-RefusesTextIn threads what bytes refusal.Strikes = RefusesRunPlan bytes refusal.Strikes
-RefusesTextIn threads what bytes (refusal.Run fault) =
-    (plan : PlanValue) × IsRunPlan bytes plan × MayFault threads plan fault
-RefusesTextIn threads what bytes (refusal.Drawing levels) =
-    (plan : PlanValue) × (log : RunValue) × IsRunPlan bytes plan × IsRunOf threads plan log
-    × IsTooLarge what plan log levels
-RefusesTextIn threads what bytes other = ⊥
-
--- why there is no text of that plan without its run: as there is none of its run, but that the plan has no such text
--- in place of a fault of the run
-abbrev pub RefusesTextFor : (PlanValue → SweepRefusal → Type 0) → List ℕ → CommandRefusal → Type 0
-RefusesTextFor May bytes refusal.OutOfMemory = Unit {0}
-RefusesTextFor May bytes (refusal.Plan fault) = RefusesRunPlan bytes (refusal.Plan fault)
-RefusesTextFor May bytes (refusal.Place number) = RefusesRunPlan bytes (refusal.Place number)
-RefusesTextFor May bytes refusal.Strikes = RefusesRunPlan bytes refusal.Strikes
-RefusesTextFor May bytes (refusal.Sweep why) = (plan : PlanValue) × IsRunPlan bytes plan × May plan why
-RefusesTextFor May bytes other = ⊥
 
 -- why there is no answer. `check` has one of a fault of the plan too
 abbrev pub IsUnanswered : PlanQuestion → List ℕ → CommandRefusal → Type 0
@@ -102,7 +63,7 @@ IsCheck other = ⊥
 abbrev pub Answers : PlanQuestion → List ℕ → FileOutcome → Type 0
 Answers asked bytes (Printed text) = IsAnswer asked bytes text.items
 Answers asked bytes (Told text) = (asked ≡ question.Check true) × IsHinted bytes text.items × (¬ IsFine true text.items)
-Answers asked bytes (Mistaken text) = (IsCheck asked ⊎ (begins_raw bytes ≡ true)) × IsExplained bytes text.items
+Answers asked bytes (Mistaken text) = (IsCheck asked ⊎ (begins_by_bytes bytes ≡ true)) × IsExplained bytes text.items
 Answers asked bytes (Refused r) = IsUnanswered asked bytes r
 Answers asked bytes Unreadable = ⊥
 

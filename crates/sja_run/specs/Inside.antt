@@ -2,7 +2,3 @@
 -- what is answered to one request, and why nothing is.
 pub mod FileReads
 pub mod FileTexts
-pub mod Runs
-pub mod Answers
-pub mod Refusals
-pub mod Denials

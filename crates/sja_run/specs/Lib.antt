@@ -1,11 +1,3 @@
-pub mod Input
-pub mod RunText
-pub mod Run
-pub mod Check
-pub mod Sweep
-pub mod Registers
-pub mod PlanDocument
-pub mod Answer
 pub mod Live
 pub mod Names
 pub mod Files

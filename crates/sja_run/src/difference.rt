@@ -9,9 +9,9 @@ ghost use Rattle.sja_run.specs.Difference.{step_at, step_behind, step_said};
 
 use super::report_place::ReportPlace;
 use can_frame::OutOfMemory;
-use sja_plan::{Plan, RAW_VERSION};
-use sja_plan_text::{named_text, step_text};
-use sja_script::Step;
+use sja_plan::{FIRST_BY_BYTES, Plan};
+use sja_plan_text::named_text;
+use sja_steps::{Step, step_text};
 use std::alloc::{AllocError, Global};
 
 /// What is said of this report of a run of the plan: nothing where it is the expected one, else its first line that is
@@ -199,7 +199,7 @@ fn step_said(alloc: Global, plan: &Plan, place: ReportPlace) -> Result<String, O
 fn words_of(alloc: Global, plan: &Plan, step: &Step) -> Result<String, OutOfMemory>
     ensures { IfOk result (λ text. string_bytes text ≡ spelled_step (plan.now.version == 3) step.now) }
 {
-    if plan.version() == RAW_VERSION {
+    if plan.version() == FIRST_BY_BYTES {
         named_text(alloc, step)
     } else {
         step_text(alloc, step)

@@ -2,28 +2,25 @@
 
 ghost use Rattle.std.specs.Prelude.{◌≡◌, ◌⊎◌, IfOk, IfErr, false, option_map, true};
 ghost use Rattle.sja_run.specs.Expected.{HasReport, IsMet, ShowsExpected};
-ghost use Rattle.sja_run.specs.Files.{RefusesTextIn};
-ghost use Rattle.sja_run.specs.Inside.Denials.{DeniesOf};
+ghost use Rattle.sja_program.specs.PlanTexts.{RefusesTextIn};
+ghost use Rattle.sja_program.specs.Denials.{DeniesOf};
 ghost use Rattle.sja_run.specs.Inside.FileReads.{IsMetBy};
-ghost use Rattle.sja_run.specs.declared.run_text.RunText.TheVariants.{Report};
+ghost use Rattle.sja_program.specs.declared.run_text.RunText.TheVariants.{Report};
 
 use super::difference::difference;
 use super::file_answers::written_by;
 use super::file_outcome::FileOutcome;
 use super::file_reads::read_file;
 use super::file_texts::put;
-use super::output::Output;
-use super::run_plan::plan_in;
-use super::run_text::RunText;
 use super::source_fault::SourceFault;
 use super::sources::Sources;
-use super::unanswered::Unanswered;
-use sja_texts::CommandRefusal;
-use sja_words::ExpectedWords;
+use sja_command_line::ExpectedWords;
+use sja_program::{Output, RunText, Unanswered, plan_in};
 use std::alloc::Global;
 use std::io::{Read, Write};
 use std::sync::Wait;
 use std::thread::Threads;
+use text_codec::CommandRefusal;
 
 /// Says whether a run of the plan has the report that is known, and gives the exit status: 0 where it has, otherwise 1.
 pub(crate) fn reply_expected<T: Threads + Wait + Sync, F: Sources, R: Read, O: Write, E: Write>(
@@ -98,7 +95,7 @@ fn met_by<T: Threads + Wait + Sync>(
 }
 
 /// What is said of the report of a run of the plan that these bytes are; nothing where it is the one that is known.
-#[tactic(auto, using(crate::proofs::Denied::of_bytes))]
+#[tactic(auto, using(sja_program::proofs::Denied::of_bytes))]
 fn compared<T: Threads + Wait + Sync>(
     rt: &T,
     alloc: Global,

@@ -1,33 +1,29 @@
 //! What comes of the plans that were read under names.
 
 ghost use Rattle.std.specs.Prelude.{◌≡◌, ℕ, List, IfOk, IfErr, length};
-ghost use Rattle.sja_words.specs.declared.plan_question.PlanQuestion.TheVariants.{Check};
-ghost use Rattle.sja_run.specs.Check.{IsHinted};
-ghost use Rattle.sja_run.specs.Files.{Answers, IsAnswer, IsCheck, IsTextIn, IsUnanswered, RefusesTextIn};
+ghost use Rattle.sja_command_line.specs.declared.plan_question.PlanQuestion.TheVariants.{Check};
+ghost use Rattle.sja_program.specs.Check.{IsHinted};
+ghost use Rattle.sja_program.specs.PlanTexts.{IsTextIn, RefusesTextIn};
+ghost use Rattle.sja_run.specs.Files.{Answers, IsAnswer, IsCheck, IsUnanswered};
 ghost use Rattle.std.specs.List.{AllZip};
-ghost use Rattle.sja_run.specs.Inside.Denials.{DeniesOf};
+ghost use Rattle.sja_program.specs.Denials.{DeniesOf};
 ghost use Rattle.sja_run.specs.Inside.FileReads.{ComeOf, ComesOf, Settles};
-ghost use Rattle.sja_run.specs.Inside.Runs.{RefusesRunOf};
-ghost use Rattle.sja_run.specs.RunText.{IsTextOfRun};
+ghost use Rattle.sja_program.specs.RunRefusals.{RefusesRunOf};
+ghost use Rattle.sja_program.specs.RunText.{IsTextOfRun};
 
-use super::check::said_of;
 use super::file_outcome::FileOutcome;
-use super::plan_check::PlanCheck;
-use super::plan_document::spelled;
-use super::registers::registers_in;
-use super::run_plan::plan_in;
-use super::run_text::{RunText, picture_or_drawing};
-use super::serial_text::written_of;
-use super::struck_plan::struck_in;
-use super::sweeps::swept_in;
 use super::thread_text::written_threads_of;
-use super::unanswered::Unanswered;
+use super::threaded_sweeps::swept_in;
+use sja_command_line::PlanQuestion;
 use sja_plan::Plan;
-use sja_texts::CommandRefusal;
-use sja_words::PlanQuestion;
+use sja_program::{
+    PlanCheck, RunText, Unanswered, picture_or_drawing, plan_in, registers_in, said_of, spelled,
+    struck_in, written_of,
+};
 use std::alloc::{AllocError, Global};
 use std::sync::Wait;
 use std::thread::{Threads, for_each_mut};
+use text_codec::CommandRefusal;
 
 /// What comes of each, in order: with more jobs than one in as many threads, where they can be made.
 ///
@@ -189,7 +185,7 @@ fn hints_outcome(strict: bool, text: Vec<u8>) -> FileOutcome
 }
 
 /// This text of a run of the plan that these bytes are: with each driver in a thread of its own, or with all in one.
-#[tactic(auto, using(crate::proofs::Denied::of_bytes))]
+#[tactic(auto, using(sja_program::proofs::Denied::of_bytes))]
 fn written_in<T: Threads + Wait + Sync>(
     rt: &T,
     alloc: Global,

@@ -1,6 +1,6 @@
 //! [`FileOutcome`]: what came of a plan that stands in a file.
 
-use sja_texts::CommandRefusal;
+use text_codec::CommandRefusal;
 
 /// What came of a plan that stands in a file (this project's own rule).
 #[derive(Debug, Drop)]

@@ -5,12 +5,12 @@ ghost use Rattle.sja_run.specs.Files.{input_name};
 ghost use Rattle.sja_run.specs.Inside.FileReads.{AreReads, IsReadOf};
 
 use super::file_outcome::FileOutcome;
-use super::input::read_input;
 use super::source_fault::SourceFault;
 use super::sources::Sources;
-use sja_texts::CommandRefusal;
+use sja_program::read_input;
 use std::alloc::{AllocError, Global};
 use std::io::Read;
+use text_codec::CommandRefusal;
 
 /// The name that the input has among files.
 const INPUT_NAME: &str = "-";

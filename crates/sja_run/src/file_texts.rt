@@ -7,10 +7,11 @@ ghost use Rattle.sja_run.specs.Files.{is_printed, of_each, printed_of, refused_o
 ghost use Rattle.sja_run.specs.Inside.FileReads.{all_refused, outcomes_in};
 
 use super::file_outcome::FileOutcome;
-use super::output::Output;
-use sja_texts::CommandRefusal;
+use super::name_lines::{put_name, put_unreadable};
+use sja_program::Output;
 use std::alloc::AllocError;
 use std::io::Write;
+use text_codec::CommandRefusal;
 
 /// Writes what came of each of these files, in order, or of each that memory is refused, and says whether all were
 /// answered.
@@ -102,27 +103,27 @@ pub(crate) fn put<O: Write, E: Write>(
 {
     match outcome {
         FileOutcome::Printed(text) => {
-            out.put_name(several, name);
+            put_name(out, several, name);
             out.put(text.as_slice());
             true
         }
         FileOutcome::Told(text) => {
-            out.put_name(several, name);
+            put_name(out, several, name);
             out.put(text.as_slice());
             false
         }
         FileOutcome::Mistaken(text) => {
-            err.put_name(several, name);
+            put_name(err, several, name);
             err.put(text.as_slice());
             false
         }
         FileOutcome::Refused(refusal) => {
-            err.put_name(several, name);
+            put_name(err, several, name);
             err.refuse(*refusal);
             false
         }
         FileOutcome::Unreadable => {
-            err.put_unreadable(name);
+            put_unreadable(err, name);
             false
         }
     }

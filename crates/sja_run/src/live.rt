@@ -1,14 +1,14 @@
 //! `live`: a session that is driven line by line.
 
 ghost use Rattle.std.specs.Prelude.{◌≡◌, false};
-ghost use Rattle.sja_run.specs.Inside.Answers.{IsOneWhereFailed};
-ghost use Rattle.sja_run.specs.Live.{ShowsTalk};
+ghost use Rattle.sja_program.specs.Replies.{IsOneWhereFailed};
+ghost use Rattle.sja_run.specs.Live.{ShowsLiveSession};
 
-use super::output::Output;
-use sja_live::{TalkEnd, TalkFault, talk};
-use sja_texts::CommandRefusal;
+use sja_live::{LiveSessionEnd, LiveSessionFault, talk};
+use sja_program::Output;
 use std::alloc::Global;
 use std::io::{Read, Write};
+use text_codec::CommandRefusal;
 
 /// Talks with whoever writes the input, and gives the exit status: 0 where the talk ended with a report, 1 where its
 /// first line opened no session, or where memory was refused, a read or a write failed.
@@ -20,7 +20,7 @@ pub(crate) fn reply_live<R: Read, O: Write, E: Write>(
 ) -> u8
     ensures failed { IsOneWhereFailed out.old.failed err.old.failed out.new.failed err.new.failed result }
     ensures answered { out.new.failed ≡ false → err.new.failed ≡ false
-        → ShowsTalk result (R.remaining input.old) (R.remaining input.new)
+        → ShowsLiveSession result (R.remaining input.old) (R.remaining input.new)
         (O.contents out.old.writer) (O.contents out.new.writer)
         (E.contents err.old.writer) (E.contents err.new.writer) }
 {
@@ -28,11 +28,11 @@ pub(crate) fn reply_live<R: Read, O: Write, E: Write>(
         return 1;
     }
     match talk(alloc, input, &mut out.writer) {
-        Ok(TalkEnd::Reported) => 0,
-        Ok(TalkEnd::Unopened) => 1,
-        Err(TalkFault::Memory) => err.refuse(CommandRefusal::OutOfMemory),
-        Err(TalkFault::Read) => err.refuse(CommandRefusal::Read),
-        Err(TalkFault::Write) => {
+        Ok(LiveSessionEnd::Reported) => 0,
+        Ok(LiveSessionEnd::Unopened) => 1,
+        Err(LiveSessionFault::Memory) => err.refuse(CommandRefusal::OutOfMemory),
+        Err(LiveSessionFault::Read) => err.refuse(CommandRefusal::Read),
+        Err(LiveSessionFault::Write) => {
             out.failed = true;
             1
         }

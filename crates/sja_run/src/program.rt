@@ -1,25 +1,21 @@
 //! [`sja`]: the whole program over words, a reader and two writers.
 
 ghost use Rattle.std.specs.Prelude.{◌≡◌, ◌⊎◌, IfOk, IfErr, Some, false, true, map};
-ghost use Rattle.sja_words.specs.Requests.{Request};
-ghost use Rattle.sja_words.specs.Words.{ParsesAs};
-ghost use Rattle.sja_run.specs.Answer.{AsksForOne, AsksForRun, IsPrinted, IsTurnedAway, Shows, request_left};
-ghost use Rattle.sja_run.specs.Inside.Answers.{IsOneWhereFailed};
+ghost use Rattle.sja_command_line.specs.Requests.{Request};
+ghost use Rattle.sja_command_line.specs.Words.{ParsesAs};
+ghost use Rattle.sja_program.specs.Answer.{AsksForOne, AsksForRun, IsPrinted, IsTurnedAway, Shows, request_left};
+ghost use Rattle.sja_program.specs.Replies.{IsOneWhereFailed};
 ghost use Rattle.sja_run.specs.Asked.{ShowsAsked};
-ghost use Rattle.sja_run.specs.Inside.Denials.{IsDenied};
-ghost use Rattle.sja_run.specs.Input.{ReadsFew};
+ghost use Rattle.sja_program.specs.Denials.{IsDenied};
+ghost use Rattle.sja_program.specs.Input.{ReadsFew};
 
 use super::expected::reply_expected;
 use super::files::reply_files;
-use super::further_task::FurtherTask;
 use super::live::reply_live;
-use super::output::Output;
-use super::serial::sja_alone;
 use super::sources::Sources;
-use super::sweeps::told_sweep_jobs;
-use super::thread_task::ThreadTask;
 use super::thread_text::written_threads;
-use super::unanswered::Unanswered;
+use super::threaded_sweeps::told_sweep_jobs;
+use sja_program::{FurtherTask, Output, ThreadTask, Unanswered, sja_alone};
 use std::alloc::Global;
 use std::convert::AsStr;
 use std::io::{Read, Write};
@@ -71,13 +67,13 @@ pub fn sja<T: Threads + Wait + Sync, F: Sources, S: AsStr, R: Read, O: Write, E:
         Err(FurtherTask::Expected(words)) => {
             reply_expected(rt, alloc, sources, words, input, out, err)
         }
-        Err(FurtherTask::Talk) => reply_live(alloc, input, out, err),
+        Err(FurtherTask::LiveSession) => reply_live(alloc, input, out, err),
         Err(FurtherTask::Threads(threaded)) => reply_threads(rt, alloc, threaded, input, out, err),
     }
 }
 
 /// Does what is left to threads, and gives the exit status.
-#[tactic(auto, using(crate::proofs::Denied::shows))]
+#[tactic(auto, using(sja_program::proofs::Denied::shows))]
 fn reply_threads<T: Threads + Wait + Sync, R: Read, O: Write, E: Write>(
     rt: &T,
     alloc: Global,

@@ -6,7 +6,7 @@ use std::alloc::Global;
 /// Where plans stand under names, as in files (this project's own rule).
 pub trait Sources {
     ghost use Rattle.std.specs.Prelude.{◌≡◌, ℕ, List, Option, Some, None, IfOk, IfErr};
-    ghost use Rattle.sja_run.specs.Input.{IsReadFrom};
+    ghost use Rattle.sja_program.specs.Input.{IsReadFrom};
     ghost use Rattle.sja_run.specs.declared.source_fault.SourceFault.TheVariants.{Unreadable};
 
     /// What stands under a name, as a whole: these bytes, or nothing that can be read.

@@ -1,25 +1,23 @@
 //! What is written of a run in threads.
 
 ghost use Rattle.std.specs.Prelude.{◌≡◌, IfOk, IfErr, true, vec_len};
-ghost use Rattle.sja_run.specs.Inside.Denials.{Denies};
-ghost use Rattle.sja_run.specs.Inside.Runs.{RefusesRunOf};
-ghost use Rattle.sja_run.specs.Run.{IsOfPlan, RefusesText};
-ghost use Rattle.sja_run.specs.RunText.{IsTextOfRun};
+ghost use Rattle.sja_program.specs.Denials.{Denies};
+ghost use Rattle.sja_program.specs.RunRefusals.{RefusesRunOf};
+ghost use Rattle.sja_program.specs.Run.{IsOfPlan, RefusesText};
+ghost use Rattle.sja_program.specs.RunText.{IsTextOfRun};
 
-use super::input::plan_of_input;
-use super::run_text::{RunText, text_of};
 use super::tries::Tries;
-use super::unanswered::Unanswered;
 use sja_plan::Plan;
-use sja_texts::CommandRefusal;
+use sja_program::{RunText, Unanswered, plan_of_input, text_of};
 use sja_threads::run_threads;
 use std::alloc::{AllocError, Global};
 use std::io::Read;
 use std::sync::Wait;
 use std::thread::Threads;
+use text_codec::CommandRefusal;
 
 /// This text of a run of the plan that the bytes of the input are, with each driver in a thread of its own.
-#[tactic(auto, using(crate::proofs::Denied::no_threads))]
+#[tactic(auto, using(sja_program::proofs::Denied::no_threads))]
 pub(crate) fn written_threads<T: Threads + Wait + Sync, R: Read>(
     rt: &T,
     alloc: Global,

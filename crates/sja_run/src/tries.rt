@@ -1,9 +1,10 @@
 //! [`Tries`]: the gate of `run --threads`.
 
 ghost use Rattle.std.specs.Prelude.{◌≡◌, ◌<◌, ◌≤◌};
-ghost use Rattle.sja_threads.specs.declared.pass.Pass.TheVariants.{Go, Quit};
+ghost use Rattle.sja_thread_promises.specs.declared.pass.Pass.TheVariants.{Go, Quit};
 
-use sja_threads::{Gate, Pass};
+use sja_thread_promises::Pass;
+use sja_threads::Gate;
 
 /// At which try of a step a script ends.
 const LAST_TRY: u32 = 10_000_000;

@@ -3,4 +3,4 @@ pub mod OneNode
 pub mod ManyBits
 pub mod AllNodes
 pub mod WholeRun
-pub mod Deeds
+pub mod TypedActs

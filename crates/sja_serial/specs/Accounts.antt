@@ -4,16 +4,16 @@
 -- what was released so far, followed by what lies unread still.
 use Rattle.std.specs.Prelude.{◌≡◌, ◌+◌, ◌<◌, ℕ, List, length, slice_index_or}
 use Rattle.sja_link.specs.Deques.{Deques, down_on}
-use Rattle.sja_link.specs.NodeWords.{FinishedPiece, IsCut}
-use Rattle.sja_link.specs.Places.{place_of}
-use Rattle.sja_link.specs.Records.{record_of}
-use Rattle.sja_link.specs.declared.entry.Entry.{Entry}
-use Rattle.sja_wire.specs.Wire.{journal_at}
+use Rattle.sja_journal.specs.NodeWords.{FinishedPiece, IsCut}
+use Rattle.sja_journal.specs.Places.{place_of}
+use Rattle.sja_journal.specs.Records.{record_of}
+use Rattle.sja_journal.specs.declared.entry.Entry.{Entry}
+use Rattle.sja_bus_rules.specs.Wire.{journal_at}
 use Rattle.sja_driver.specs.declared.logged_driver.LoggedDriver.{LoggedDriver}
 use Rattle.sja_driver.specs.AnyDrivers.{opened_of}
 use Rattle.sja_driver.specs.LoggedDrivers.{driver_of}
-use Rattle.sja_log.specs.Finishing.{activation_after}
-use Rattle.sja_log.specs.Headline.{Headline}
+use Rattle.sja_promises.specs.Finishing.{activation_after}
+use Rattle.sja_promises.specs.Headline.{Headline}
 use Rattle.sja_serial.specs.Serial.{SerialValue}
 
 -- of a node, by its journal, its driver, and what lies downward on its links: its record has a cut, the driver has

@@ -1,5 +1,5 @@
 -- How a run goes on from turn to turn, and a step on its way: definitions of private contracts and of proofs alone.
-pub mod Going
+pub mod SerialProgress
 pub mod Rounds
 pub mod Turning
 pub mod Accessing

@@ -1,6 +1,6 @@
 -- A run in one thread with a strike more (this project's own rule).
 use Rattle.std.specs.Prelude.{[], ◌∷◌, ◌++◌}
-use Rattle.sja_script.specs.declared.strike.Strike.{Strike}
+use Rattle.sja_steps.specs.declared.strike.Strike.{Strike}
 use Rattle.sja_serial.specs.Serial.{Setup, SerialValue}
 
 -- the same run, but that its bus has one strike more, behind those that it had

@@ -1,10 +1,10 @@
 -- Bits of a run in one thread up to the first in which a port is told its turn (this project's own rule).
 use Rattle.std.specs.Prelude.{◌≡◌, ◌<◌, ℕ, false, List, length}
 use Rattle.sja_bus.specs.Boards.{HasOrders, WasTold}
-use Rattle.sja_wire.specs.Buses.{EachJournal}
-use Rattle.sja_wire.specs.Wire.{journal_at}
+use Rattle.sja_bus_rules.specs.Buses.{EachJournal}
+use Rattle.sja_bus_rules.specs.Wire.{journal_at}
 use Rattle.sja_bus.specs.UntilTold.{HasBitsMore, IsLastTurn, NoMore, RunsNone}
-use Rattle.sja_driver.specs.Deeds.{Deed}
+use Rattle.sja_driver.specs.TypedActs.{TypedAct}
 use Rattle.sja_regs.specs.declared.bus_turn.BusTurn.{BusTurn}
 use Rattle.sja_serial.specs.Bits.{TakesBits}
 use Rattle.sja_serial.specs.Serial.{Setup, SerialValue}
@@ -16,8 +16,8 @@ pub record NoneTold (was now : SerialValue) : Type 0 where
   pub journals : EachJournal HasBitsMore was.bus.journals now.bus.journals
 
 -- so many bits, before each of which no port was told anything: so none is told its turn in any of them but the last
-abbrev pub TakesUntilTold : Setup → List (List Deed) → SerialValue → ℕ → SerialValue → Type 0
-TakesUntilTold setup deeds was = TakesBits setup deeds (NoneTold was) was
+abbrev pub TakesUntilTold : Setup → List (List TypedAct) → SerialValue → ℕ → SerialValue → Type 0
+TakesUntilTold setup acts was = TakesBits setup acts (NoneTold was) was
 
 -- why these bits ended with the last one of n, of so many that were asked for
 pub data EndsUntilTold (count : ℕ) (was : SerialValue) (n : ℕ) (now : SerialValue) : Type 0 where

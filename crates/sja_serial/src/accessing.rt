@@ -3,12 +3,12 @@
 
 use super::drivers::FIRST_BY_BYTES;
 use super::serial_run::SerialRun;
-use sja_driver::{KeptBytes, is_reset};
-use sja_script::{Step, StepAnswer};
+use sja_driver::{UnmodelledRegisters, is_reset};
+use sja_steps::{Step, StepAnswer};
 
 impl SerialRun {
     ghost use Rattle.std.specs.Prelude.{◌≡◌, List, true, false};
-    ghost use Rattle.sja_driver.specs.Accesses.{Access};
+    ghost use Rattle.sja_driver.specs.StepRuns.{StepRun};
     ghost use Rattle.sja_serial.specs.Serial.{Setup, StandsBy, IsRunBy};
     ghost use Rattle.sja_serial.specs.Stepping.{DoesStep, WaitsFor, HasRoomLeft};
 
@@ -19,13 +19,13 @@ impl SerialRun {
         ghost setup: { Setup }
         requires run { IsRunBy setup self.old }
         requires room { HasRoomLeft setup self.old node }
-        ensures done { result ≡ true → (accesses : List (List Access)) → StandsBy setup self.old accesses →
-            DoesStep setup self.old self.new node step.now accesses }
-        ensures waits { result ≡ false → (accesses : List (List Access)) → StandsBy setup self.old accesses →
-            WaitsFor setup self.old self.new node step.now accesses }
+        ensures done { result ≡ true → (step_runs : List (List StepRun)) → StandsBy setup self.old step_runs →
+            DoesStep setup self.old self.new node step.now step_runs }
+        ensures waits { result ≡ false → (step_runs : List (List StepRun)) → StandsBy setup self.old step_runs →
+            WaitsFor setup self.old self.new node step.now step_runs }
     {
         if self.version() < FIRST_BY_BYTES {
-            return self.one_deed(node, step);
+            return self.one_act(node, step);
         }
         match step {
             Step::Read(address) => {
@@ -37,39 +37,39 @@ impl SerialRun {
                 true
             }
             Step::At(bits) => self.reach(node, *bits),
-            _ => self.one_deed(node, step),
+            _ => self.one_act(node, step),
         }
     }
 }
 
 impl SerialRun {
     ghost use Rattle.std.specs.Prelude.{◌≡◌, ◌≤◌, ◌+◌, ◌<◌, ℕ, List, true, false, length, slice_index_or};
-    ghost use Rattle.sja_driver.specs.Accesses.{Access, IsOneDeed, accesses_at, by_bytes, deeds_in, kept_written};
-    ghost use Rattle.sja_driver.specs.Deeds.{Deed};
+    ghost use Rattle.sja_driver.specs.StepRuns.{StepRun, IsOneAct, step_runs_at, by_bytes, acts_in, kept_written};
+    ghost use Rattle.sja_driver.specs.TypedActs.{TypedAct};
     ghost use Rattle.sja_driver.specs.declared.logged_driver.LoggedDriver.{LoggedDriver as Logged};
     ghost use Rattle.sja_driver.specs.LoggedDrivers.{kept_of, log_of};
     ghost use Rattle.sja_regs.specs.declared.registers.Registers.{Registers};
     ghost use Rattle.sja_driver.specs.Logs.{done_in, done_room};
     ghost use Rattle.sja_driver.specs.WriteLists.{IsPromptIf};
-    ghost use Rattle.sja_script.specs.declared.step.Step.TheVariants.{Read, Write, At};
-    ghost use Rattle.sja_serial.specs.Inside.Accessing.{DoesDeeds, DoesPart, Enters};
+    ghost use Rattle.sja_steps.specs.declared.step.Step.TheVariants.{Read, Write, At};
+    ghost use Rattle.sja_serial.specs.Inside.Accessing.{DoesActs, DoesPart, Enters};
     ghost use Rattle.sja_serial.specs.Serial.{Setup, SerialValue, StandsBy, IsRunBy};
-    ghost use Rattle.sja_serial.specs.Stepping.{DoesStep, WaitsFor, HasDeedLeft, HasRoomLeft};
+    ghost use Rattle.sja_serial.specs.Stepping.{DoesStep, WaitsFor, HasActLeft, HasRoomLeft};
 
-    /// A step that is one deed.
+    /// A step that is one act.
     #[inline(always)]
-    fn one_deed(&mut self, node: u8, step: &Step) -> bool
+    fn one_act(&mut self, node: u8, step: &Step) -> bool
         ghost setup: { Setup }
         requires run { IsRunBy setup self.old }
         requires room { HasRoomLeft setup self.old node }
-        requires one { IsOneDeed (by_bytes setup.version) step.now }
-        ensures done { result ≡ true → (accesses : List (List Access)) → StandsBy setup self.old accesses →
-            DoesStep setup self.old self.new node step.now accesses }
-        ensures waits { result ≡ false → (accesses : List (List Access)) → StandsBy setup self.old accesses →
-            WaitsFor setup self.old self.new node step.now accesses }
+        requires one { IsOneAct (by_bytes setup.version) step.now }
+        ensures done { result ≡ true → (step_runs : List (List StepRun)) → StandsBy setup self.old step_runs →
+            DoesStep setup self.old self.new node step.now step_runs }
+        ensures waits { result ≡ false → (step_runs : List (List StepRun)) → StandsBy setup self.old step_runs →
+            WaitsFor setup self.old self.new node step.now step_runs }
     {
         let mut kept = self.kept_by_step(node, step);
-        match self.deed(node, step) {
+        match self.act(node, step) {
             Some(answer) => {
                 kept.answered(&answer);
                 self.enter(node, answer, kept);
@@ -86,12 +86,12 @@ impl SerialRun {
         requires run { IsRunBy setup self.old }
         requires room { HasRoomLeft setup self.old node }
         requires bytes { by_bytes setup.version ≡ true }
-        ensures { (accesses : List (List Access)) → StandsBy setup self.old accesses →
-            DoesStep setup self.old self.new node (Read address) accesses }
+        ensures { (step_runs : List (List StepRun)) → StandsBy setup self.old step_runs →
+            DoesStep setup self.old self.new node (Read address) step_runs }
     {
         let step = Step::Read(address);
         let mut kept = self.kept_by_step(node, &step);
-        match self.deed(node, &step) {
+        match self.act(node, &step) {
             Some(answer) => {
                 let value = kept.read_by(address, &answer);
                 kept.answered(&answer);
@@ -101,7 +101,7 @@ impl SerialRun {
         }
     }
 
-    /// A wait until so many bits have run, of a driver that knows addresses and bytes alone: it is no deed. It says
+    /// A wait until so many bits have run, of a driver that knows addresses and bytes alone: it is no act. It says
     /// whether they have; else nothing happened.
     #[inline(never)]
     fn reach(&mut self, node: u8, bits: u32) -> bool
@@ -109,10 +109,10 @@ impl SerialRun {
         requires run { IsRunBy setup self.old }
         requires room { HasRoomLeft setup self.old node }
         requires bytes { by_bytes setup.version ≡ true }
-        ensures done { result ≡ true → (accesses : List (List Access)) → StandsBy setup self.old accesses →
-            DoesStep setup self.old self.new node (At bits) accesses }
-        ensures waits { result ≡ false → (accesses : List (List Access)) → StandsBy setup self.old accesses →
-            WaitsFor setup self.old self.new node (At bits) accesses }
+        ensures done { result ≡ true → (step_runs : List (List StepRun)) → StandsBy setup self.old step_runs →
+            DoesStep setup self.old self.new node (At bits) step_runs }
+        ensures waits { result ≡ false → (step_runs : List (List StepRun)) → StandsBy setup self.old step_runs →
+            WaitsFor setup self.old self.new node (At bits) step_runs }
     {
         // Asked for what holds of every bus.
         let _ = self.bits_left();
@@ -126,7 +126,7 @@ impl SerialRun {
 
     /// What is kept for the driver of a node once a step has written its value, if it writes one that is kept.
     #[inline(always)]
-    pub(crate) fn kept_by_step(&self, node: u8, step: &Step) -> KeptBytes
+    pub(crate) fn kept_by_step(&self, node: u8, step: &Step) -> UnmodelledRegisters
         requires driver { node < length self.now.drivers }
         requires port { node < length self.now.ports }
         ensures { (d : Logged) (p : Registers) → result ≡ kept_written (slice_index_or self.now.ports node p)
@@ -142,7 +142,7 @@ impl SerialRun {
 
     /// Enters a step of a node as done.
     #[inline(always)]
-    pub(crate) fn enter(&mut self, node: u8, answer: StepAnswer, kept: KeptBytes)
+    pub(crate) fn enter(&mut self, node: u8, answer: StepAnswer, kept: UnmodelledRegisters)
         requires there { node < length self.old.drivers }
         requires room { (d : Logged) → length (done_in (log_of (slice_index_or self.old.drivers node d)))
             < done_room (log_of (slice_index_or self.old.drivers node d)) }

@@ -6,18 +6,18 @@ use super::serial_run::SerialRun;
 
 impl SerialRun {
     ghost use Rattle.std.specs.Prelude.{◌≡◌, ◌+◌, ◌<◌, ◌≤◌, ◌⊎◌, List};
-    ghost use Rattle.sja_wire.specs.Lawful.{IsBusRun};
-    ghost use Rattle.sja_driver.specs.Deeds.{Deed};
+    ghost use Rattle.sja_bus_rules.specs.Lawful.{IsBusRun};
+    ghost use Rattle.sja_driver.specs.TypedActs.{TypedAct};
     ghost use Rattle.sja_serial.specs.Bits.{TakesBit, TakesBits, AllRestIn, SomeWorks, TakesBusTurn, TakesRest};
-    ghost use Rattle.sja_serial.specs.Inside.Going.{TakesAtOnce};
+    ghost use Rattle.sja_serial.specs.Inside.SerialProgress.{TakesAtOnce};
     ghost use Rattle.sja_serial.specs.Serial.{Setup, StandsAt, IsRunOf};
 
     /// `bus`: so many bits, or as many as are left. It says whether all were run.
     pub fn bus_turn(&mut self, count: u32) -> bool
         ghost setup: { Setup }
         requires run { IsRunOf setup self.old }
-        ensures turn { (deeds : List (List Deed)) → StandsAt setup self.old deeds →
-            TakesBusTurn setup deeds self.old self.new count result }
+        ensures turn { (acts : List (List TypedAct)) → StandsAt setup self.old acts →
+            TakesBusTurn setup acts self.old self.new count result }
         ensures stays { IsRunOf setup self.new }
     {
         let mut run = self.run_busy_bits(count);
@@ -38,8 +38,8 @@ impl SerialRun {
     pub fn rest_turn(&mut self, most: u32) -> bool
         ghost setup: { Setup }
         requires run { IsRunOf setup self.old }
-        ensures turn { (deeds : List (List Deed)) → StandsAt setup self.old deeds →
-            TakesRest setup deeds self.old self.new most result }
+        ensures turn { (acts : List (List TypedAct)) → StandsAt setup self.old acts →
+            TakesRest setup acts self.old self.new most result }
         ensures stays { IsRunOf setup self.new }
     {
         self.run_busy_bits(most);
@@ -52,8 +52,8 @@ impl SerialRun {
         ghost setup: { Setup }
         requires run { IsRunOf setup self.old }
         ensures most { result ≤ count }
-        ensures bits { (deeds : List (List Deed)) → StandsAt setup self.old deeds →
-            TakesBits setup deeds (SomeWorks setup) self.old result self.new }
+        ensures bits { (acts : List (List TypedAct)) → StandsAt setup self.old acts →
+            TakesBits setup acts (SomeWorks setup) self.old result self.new }
         ensures whole { (result ≡ count) ⊎ (setup.bits ≤ self.new.bits) ⊎ AllRestIn setup self.new }
     {
         let most = at_most(count, self.bits_left());
@@ -78,8 +78,8 @@ impl SerialRun {
         requires some { 1 ≤ count }
         ensures some { 1 ≤ result }
         ensures most { result ≤ count }
-        ensures bits { (deeds : List (List Deed)) → StandsAt setup self.old deeds →
-            TakesBits setup deeds (λ r. Unit {0}) self.old result self.new }
+        ensures bits { (acts : List (List TypedAct)) → StandsAt setup self.old acts →
+            TakesBits setup acts (λ r. Unit {0}) self.old result self.new }
     {
         let bits = self.run_idle_bits(count);
         if bits == 0 {
@@ -96,8 +96,8 @@ impl SerialRun {
         requires run { IsRunOf setup self.old }
         requires left { self.old.bits < setup.bits }
         requires lawful { IsBusRun self.old.bus.script self.old.bus.run self.old.bus.journals }
-        ensures { (deeds : List (List Deed)) → StandsAt setup self.old deeds →
-            TakesAtOnce setup deeds self.old self.new count result }
+        ensures { (acts : List (List TypedAct)) → StandsAt setup self.old acts →
+            TakesAtOnce setup acts self.old self.new count result }
     {
         match self
             .bus
@@ -118,8 +118,8 @@ impl SerialRun {
         requires run { IsRunOf setup self.old }
         requires left { self.old.bits < setup.bits }
         requires lawful { IsBusRun self.old.bus.script self.old.bus.run self.old.bus.journals }
-        ensures { (deeds : List (List Deed)) → StandsAt setup self.old deeds →
-            TakesBit setup deeds self.old self.new }
+        ensures { (acts : List (List TypedAct)) → StandsAt setup self.old acts →
+            TakesBit setup acts self.old self.new }
     {
         match self.bus.bit(self.links.as_mut_slice(), &mut self.board) {
             Ok(()) => self.bits += 1,

@@ -2,15 +2,16 @@
 
 use super::left_on_links::all_left_down;
 use super::serial_run::SerialRun;
-use sja_log::{End, NoLog, RunLog, node_runs};
+use sja_log::{End, NoLog, RunLog};
+use sja_promises::node_runs;
 use std::alloc::Global;
 
 impl SerialRun {
     ghost use Rattle.std.specs.Prelude.{◌≡◌, List, Err, IfOk, OnOk};
-    ghost use Rattle.sja_driver.specs.Accesses.{Access};
+    ghost use Rattle.sja_driver.specs.StepRuns.{StepRun};
     ghost use Rattle.sja_plan.specs.Plan.{PlanValue};
     ghost use Rattle.sja_log.specs.declared.no_log.NoLog.TheVariants.{Endless};
-    ghost use Rattle.sja_serial.specs.Keeping.{KeepsRun};
+    ghost use Rattle.sja_serial.specs.LoggedRuns.{KeepsRun};
     ghost use Rattle.sja_serial.specs.Serial.{Setup, StandsBy, IsRunBy};
     ghost use Rattle.sja_serial.specs.Ending.{IsLogOf, MayBeOf};
 
@@ -23,8 +24,8 @@ impl SerialRun {
     pub fn finish(self, alloc: Global, end: End) -> Result<RunLog, NoLog>
         ghost setup: { Setup }
         requires run { IsRunBy setup self }
-        ensures log { IfOk result (λ log. (plan : PlanValue) (accesses : List (List Access)) →
-            StandsBy setup self accesses → MayBeOf plan setup accesses → IsLogOf plan self accesses end log) }
+        ensures log { IfOk result (λ log. (plan : PlanValue) (step_runs : List (List StepRun)) →
+            StandsBy setup self step_runs → MayBeOf plan setup step_runs → IsLogOf plan self step_runs end log) }
         ensures kept { OnOk result (KeepsRun self) }
         ensures endless { result ≡ Err Endless → KeepsRun self → ⊥ }
     {

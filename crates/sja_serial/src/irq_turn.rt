@@ -4,7 +4,7 @@ use super::serial_run::SerialRun;
 
 impl SerialRun {
     ghost use Rattle.std.specs.Prelude.{◌<◌, List};
-    ghost use Rattle.sja_driver.specs.Accesses.{Access};
+    ghost use Rattle.sja_driver.specs.StepRuns.{StepRun};
     ghost use Rattle.sja_serial.specs.Inside.Rounds.{TakesIrq};
     ghost use Rattle.sja_serial.specs.Serial.{Setup, StandsBy, IsRunBy};
 
@@ -14,8 +14,8 @@ impl SerialRun {
         ghost setup: { Setup }
         requires run { IsRunBy setup self.old }
         requires node { node < setup.nodes }
-        ensures { (accesses : List (List Access)) → StandsBy setup self.old accesses →
-            TakesIrq setup accesses node count self.old self.new result }
+        ensures { (step_runs : List (List StepRun)) → StandsBy setup self.old step_runs →
+            TakesIrq setup step_runs node count self.old self.new result }
     {
         for _ in 0..count {
             if self.irq(node) {

@@ -1,11 +1,12 @@
 //! What was left on the links at the end of a run.
 
 ghost use Rattle.std.specs.Prelude.{◌≡◌, Err, IfOk, OnOk};
-ghost use Rattle.sja_log.specs.LeftDown.{IsLeft, KeepOlder};
+ghost use Rattle.sja_promises.specs.LeftDown.{IsLeft, KeepOlder};
 ghost use Rattle.sja_log.specs.declared.no_log.NoLog.TheVariants.{Endless};
 
 use sja_link::DequeLinks;
-use sja_log::{LeftDown, NoLog};
+use sja_log::NoLog;
+use sja_promises::LeftDown;
 use std::alloc::Global;
 
 /// What lies downward on the links of each node.

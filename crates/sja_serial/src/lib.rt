@@ -10,8 +10,8 @@
 //! too ([`SerialRun::strike`]). After each step of a driver the bus takes what was given, so between two steps nothing
 //! waits on a link: each item is taken after just the bits before its step, and no link is ever full upward.
 //!
-//! Contracts say for what a run was made and at which deeds of the drivers it stands, `StandsAt` of
-//! `specs/Serial.antt`: of each node its driver did these deeds; its links carried what its journal and its deeds say;
+//! Contracts say for what a run was made and at which acts of the drivers it stands, `StandsAt` of
+//! `specs/Serial.antt`: of each node its driver did these acts; its links carried what its journal and its acts say;
 //! its port is as its writes and loads have set it; and all was in time, as `IsInTime` of sja_log has it.
 //!
 //! A run of the size of a plan keeps all that happens in it ([`a_run_of_the_size_of_a_plan_keeps_all`]), so it has a

@@ -35,14 +35,14 @@ impl SerialRun {
     ghost use Rattle.std.specs.Prelude.{◌≡◌, ◌<◌, ℕ, List, length, slice_index_or};
     ghost use Rattle.sja_driver.specs.declared.logged_driver.LoggedDriver.{LoggedDriver as Logged};
     ghost use Rattle.sja_driver.specs.LoggedDrivers.{kept_of};
-    ghost use Rattle.sja_driver.specs.Deeds.{Deed, deeds_at, is_active};
-    ghost use Rattle.sja_log.specs.Registering.{seen_now};
+    ghost use Rattle.sja_driver.specs.TypedActs.{TypedAct, acts_at, is_active};
+    ghost use Rattle.sja_promises.specs.Registering.{seen_now};
     ghost use Rattle.sja_regs.specs.declared.registers.Registers.{Registers};
     ghost use Rattle.sja_regs.specs.InterruptLine.{is_line_active};
-    ghost use Rattle.sja_driver.specs.Accesses.{Access};
+    ghost use Rattle.sja_driver.specs.StepRuns.{StepRun};
     ghost use Rattle.sja_serial.specs.Accounts.{AreAccountsNow};
     ghost use Rattle.sja_serial.specs.Serial.{Setup, StandsAt, StandsBy, IsRunOf};
-    ghost use Rattle.sja_wire.specs.Wire.{journal_at};
+    ghost use Rattle.sja_bus_rules.specs.Wire.{journal_at};
 
     /// By which version of the model it runs.
     pub fn version(&self) -> u8
@@ -72,12 +72,12 @@ impl SerialRun {
         ghost setup: { Setup }
         requires run { IsRunOf setup self.old }
         requires node { node < setup.nodes }
-        ensures seen { (deeds : List (List Deed)) → StandsAt setup self.old deeds → result
-            ≡ seen_now (is_active (deeds_at deeds node)) (journal_at self.old.bus.journals node) (deeds_at deeds node) }
-        ensures stands { (deeds : List (List Deed)) → StandsAt setup self.old deeds →
-            StandsAt setup self.new deeds }
-        ensures by { (accesses : List (List Access)) → StandsBy setup self.old accesses →
-            StandsBy setup self.new accesses }
+        ensures seen { (acts : List (List TypedAct)) → StandsAt setup self.old acts → result
+            ≡ seen_now (is_active (acts_at acts node)) (journal_at self.old.bus.journals node) (acts_at acts node) }
+        ensures stands { (acts : List (List TypedAct)) → StandsAt setup self.old acts →
+            StandsAt setup self.new acts }
+        ensures by { (step_runs : List (List StepRun)) → StandsBy setup self.old step_runs →
+            StandsBy setup self.new step_runs }
         ensures bus { self.new.bus ≡ self.old.bus }
         ensures ports { self.new.ports ≡ self.old.ports }
         ensures bits { self.new.bits ≡ self.old.bits }
@@ -99,13 +99,13 @@ impl SerialRun {
         ghost setup: { Setup }
         requires run { IsRunOf setup self.old }
         requires node { node < setup.nodes }
-        ensures line { (deeds : List (List Deed)) → StandsAt setup self.old deeds → (p : Registers) → result
-            ≡ is_line_active (slice_index_or self.old.ports node p) (seen_now (is_active (deeds_at deeds node))
-            (journal_at self.old.bus.journals node) (deeds_at deeds node)) }
-        ensures stands { (deeds : List (List Deed)) → StandsAt setup self.old deeds →
-            StandsAt setup self.new deeds }
-        ensures by { (accesses : List (List Access)) → StandsBy setup self.old accesses →
-            StandsBy setup self.new accesses }
+        ensures line { (acts : List (List TypedAct)) → StandsAt setup self.old acts → (p : Registers) → result
+            ≡ is_line_active (slice_index_or self.old.ports node p) (seen_now (is_active (acts_at acts node))
+            (journal_at self.old.bus.journals node) (acts_at acts node)) }
+        ensures stands { (acts : List (List TypedAct)) → StandsAt setup self.old acts →
+            StandsAt setup self.new acts }
+        ensures by { (step_runs : List (List StepRun)) → StandsBy setup self.old step_runs →
+            StandsBy setup self.new step_runs }
         ensures bus { self.new.bus ≡ self.old.bus }
         ensures ports { self.new.ports ≡ self.old.ports }
         ensures bits { self.new.bits ≡ self.old.bits }

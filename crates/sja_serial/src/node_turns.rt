@@ -1,8 +1,8 @@
 //! The turns of drivers: so many steps of one, all that one can do, or all drivers by themselves.
 
 ghost use Rattle.std.specs.Prelude.{◌≡◌, ◌<◌, List, length, true, false};
-ghost use Rattle.sja_driver.specs.Accesses.{Access};
-ghost use Rattle.sja_serial.specs.Inside.Going.{StandsIn, IsRunIn, TakesTurn};
+ghost use Rattle.sja_driver.specs.StepRuns.{StepRun};
+ghost use Rattle.sja_serial.specs.Inside.SerialProgress.{StandsIn, IsRunIn, TakesTurn};
 ghost use Rattle.sja_serial.specs.Inside.Rounds.{TakesAll, TakesGo, NoneIsLeft, SomeIsLeft, past_all};
 
 use super::serial_run::SerialRun;
@@ -13,8 +13,8 @@ use sja_plan::Plan;
 pub(crate) fn take_steps(run: &mut SerialRun, plan: &Plan, node: u8, count: u32)
     requires run { IsRunIn plan.now run.old }
     requires node { node < length plan.now.nodes }
-    ensures { (accesses : List (List Access)) → StandsIn plan.now run.old accesses →
-        TakesTurn plan.now run.old run.new node count accesses }
+    ensures { (step_runs : List (List StepRun)) → StandsIn plan.now run.old step_runs →
+        TakesTurn plan.now run.old run.new node count step_runs }
 {
     let place = usize::from(node);
     let steps = plan.steps(place);
@@ -34,8 +34,8 @@ pub(crate) fn take_steps(run: &mut SerialRun, plan: &Plan, node: u8, count: u32)
 pub(crate) fn take_all_steps(run: &mut SerialRun, plan: &Plan, node: u8)
     requires run { IsRunIn plan.now run.old }
     requires node { node < length plan.now.nodes }
-    ensures { (accesses : List (List Access)) → StandsIn plan.now run.old accesses →
-        TakesTurn plan.now run.old run.new node (past_all plan.now node) accesses }
+    ensures { (step_runs : List (List StepRun)) → StandsIn plan.now run.old step_runs →
+        TakesTurn plan.now run.old run.new node (past_all plan.now node) step_runs }
 {
     let steps = plan.steps(usize::from(node)).len() as u32;
     take_steps(run, plan, node, steps + 1)
@@ -46,8 +46,8 @@ pub(crate) fn take_all_steps(run: &mut SerialRun, plan: &Plan, node: u8)
 /// spent.
 pub(crate) fn go_turn(run: &mut SerialRun, plan: &Plan) -> bool
     requires run { IsRunIn plan.now run.old }
-    ensures { (accesses : List (List Access)) → StandsIn plan.now run.old accesses →
-        TakesGo plan.now accesses run.old run.new result }
+    ensures { (step_runs : List (List StepRun)) → StandsIn plan.now run.old step_runs →
+        TakesGo plan.now step_runs run.old run.new result }
 {
     for _ in run.bits()..plan.bits() as u64 + 1 {
         take_round(run, plan);
@@ -64,8 +64,9 @@ pub(crate) fn go_turn(run: &mut SerialRun, plan: &Plan) -> bool
 /// Each driver, in the order of the nodes, does all that it can. No bit is run.
 fn take_round(run: &mut SerialRun, plan: &Plan)
     requires run { IsRunIn plan.now run.old }
-    ensures round { (accesses : List (List Access)) → StandsIn plan.now run.old accesses → (after : List (List Access))
-        × TakesAll plan.now 0 accesses run.old after run.new × StandsIn plan.now run.new after }
+    ensures round { (step_runs : List (List StepRun)) → StandsIn plan.now run.old step_runs →
+        (after : List (List StepRun))
+        × TakesAll plan.now 0 step_runs run.old after run.new × StandsIn plan.now run.new after }
     ensures bits { run.new.bits ≡ run.old.bits }
 {
     for node in 0..plan.nodes() as u8 {
@@ -76,10 +77,10 @@ fn take_round(run: &mut SerialRun, plan: &Plan)
 /// Whether all drivers have done their last step.
 fn none_is_left(run: &SerialRun, plan: &Plan) -> bool
     requires run { IsRunIn plan.now run.now }
-    ensures none { result ≡ true → (accesses : List (List Access)) → StandsIn plan.now run.now accesses →
-        NoneIsLeft plan.now accesses }
-    ensures some { result ≡ false → (accesses : List (List Access)) → StandsIn plan.now run.now accesses →
-        SomeIsLeft plan.now accesses }
+    ensures none { result ≡ true → (step_runs : List (List StepRun)) → StandsIn plan.now run.now step_runs →
+        NoneIsLeft plan.now step_runs }
+    ensures some { result ≡ false → (step_runs : List (List StepRun)) → StandsIn plan.now run.now step_runs →
+        SomeIsLeft plan.now step_runs }
 {
     for node in 0..plan.nodes() {
         if run.driver(node).log().done_count() < plan.steps(node).len() {

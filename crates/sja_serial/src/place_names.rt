@@ -1,10 +1,10 @@
 //! The names that plans have for the place of a node.
 
 ghost use Rattle.std.specs.Prelude.{◌≡◌, ◌≤◌};
-ghost use Rattle.sja_serial.specs.Placing.{name_of, named, named_in_frame};
+ghost use Rattle.sja_serial.specs.SerialPlaces.{name_of, named, named_in_frame};
 
-use can_bits::{FramePlace, Segment};
-use can_node::NodePlace;
+use can_levels::{FramePlace, Segment};
+use can_node_rules::NodePlace;
 use sja_plan::Place;
 
 /// The name of the place of a node's next bit.
@@ -13,7 +13,7 @@ pub(crate) fn named(place: NodePlace) -> Place
 {
     match place {
         NodePlace::Start => Place::Sof,
-        NodePlace::Substitute => Place::Srr,
+        NodePlace::Srr => Place::Srr,
         NodePlace::InFrame(place) => named_in_frame(place),
         NodePlace::Intermission(bit) => Place::Intermission(usize::from(bit)),
     }
@@ -45,10 +45,10 @@ fn name_of(segment: Segment, index: usize) -> Place
         Segment::Id4To0 => Place::Id(4usize.saturating_sub(index)),
         Segment::Reserved1 => Place::R1,
         Segment::Reserved0 => Place::R0,
-        Segment::LengthCode => Place::Dlc(3usize.saturating_sub(index)),
+        Segment::DataLengthCode => Place::Dlc(3usize.saturating_sub(index)),
         Segment::Data => Place::Data(index / 8 + 1, 7 - index % 8),
-        Segment::CheckSequence => Place::Crc(14usize.saturating_sub(index)),
-        Segment::CheckDelimiter => Place::CrcDelimiter,
+        Segment::CrcSequence => Place::Crc(14usize.saturating_sub(index)),
+        Segment::CrcDelimiter => Place::CrcDelimiter,
         Segment::AckSlot => Place::Ack,
         Segment::AckDelimiter => Place::AckDelimiter,
         Segment::EndOfFrame => Place::Eof(index + 1),

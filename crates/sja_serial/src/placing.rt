@@ -6,10 +6,10 @@ use sja_plan::Place;
 
 impl SerialRun {
     ghost use Rattle.std.specs.Prelude.{◌≡◌, ◌<◌, Some, List, true, false};
-    ghost use Rattle.sja_driver.specs.Deeds.{Deed};
-    ghost use Rattle.sja_serial.specs.Placing.{IsElsewhere, IsPlace, TakesTo};
+    ghost use Rattle.sja_driver.specs.TypedActs.{TypedAct};
+    ghost use Rattle.sja_serial.specs.SerialPlaces.{IsElsewhere, IsPlace, TakesTo};
     ghost use Rattle.sja_serial.specs.Serial.{Setup, StandsAt, IsRunOf};
-    ghost use Rattle.sja_wire.specs.Wire.{journal_at};
+    ghost use Rattle.sja_bus_rules.specs.Wire.{journal_at};
 
     /// The place of the next bit of a node, counted from 0, in a frame: by what it sends or has read of one so far.
     /// None where it has none there.
@@ -45,8 +45,8 @@ impl SerialRun {
         ghost setup: { Setup }
         requires run { IsRunOf setup self.old }
         requires node { node < setup.nodes }
-        ensures to { (deeds : List (List Deed)) → StandsAt setup self.old deeds →
-            TakesTo setup deeds node place limit (result.0) (result.1) self.old self.new }
+        ensures to { (acts : List (List TypedAct)) → StandsAt setup self.old acts →
+            TakesTo setup acts node place limit (result.0) (result.1) self.old self.new }
         ensures stays { IsRunOf setup self.new }
     {
         let mut run = 0;

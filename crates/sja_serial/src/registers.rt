@@ -2,17 +2,17 @@
 
 ghost use Rattle.std.specs.Prelude.{◌≡◌, ◌<◌, ◌≤◌, ◌++◌, List, length, IfOk, OnOk};
 ghost use Rattle.std.specs.List.{flat_map};
-ghost use Rattle.sja_driver.specs.Accesses.{Access};
+ghost use Rattle.sja_driver.specs.StepRuns.{StepRun};
 ghost use Rattle.sja_serial.specs.Inside.Registering.{AddsNode};
 ghost use Rattle.sja_serial.specs.Registers.{AreRegisters, node_rows, row_of, rows_below, shown_value};
 ghost use Rattle.sja_serial.specs.Registers.{window_addresses};
-ghost use Rattle.sja_serial.specs.Serial.{Setup, StandsBy, IsRunBy, all_deeds};
+ghost use Rattle.sja_serial.specs.Serial.{Setup, StandsBy, IsRunBy, all_acts};
 
 use super::drivers::FIRST_BY_BYTES;
 use super::run::{new_run, take_turns};
 use super::serial_run::SerialRun;
 use can_frame::OutOfMemory;
-use sja_driver::{KeptBytes, is_reset};
+use sja_driver::{UnmodelledRegisters, is_reset};
 use sja_log::RegisterRow;
 use sja_plan::Plan;
 use sja_regs::{BufferView, Port};
@@ -52,8 +52,8 @@ fn rows_of(alloc: Global, run: &mut SerialRun, nodes: u8) -> Result<Vec<Register
     ghost setup: { Setup }
     requires run { IsRunBy setup run.old }
     requires nodes { nodes ≤ setup.nodes }
-    ensures { IfOk result (λ rows. (accesses : List (List Access)) → StandsBy setup run.old accesses →
-        rows.items ≡ rows_below run.old (all_deeds accesses) nodes) }
+    ensures { IfOk result (λ rows. (step_runs : List (List StepRun)) → StandsBy setup run.old step_runs →
+        rows.items ≡ rows_below run.old (all_acts step_runs) nodes) }
 {
     let mut rows = Vec::new(alloc);
     for node in 0..nodes {
@@ -67,8 +67,8 @@ fn push_node(rows: &mut Vec<RegisterRow>, run: &mut SerialRun, node: u8) -> Resu
     ghost setup: { Setup }
     requires run { IsRunBy setup run.old }
     requires node { node < setup.nodes }
-    ensures { OnOk result ((accesses : List (List Access)) → StandsBy setup run.old accesses →
-        AddsNode setup accesses rows.old.items rows.new.items run.old run.new node) }
+    ensures { OnOk result ((step_runs : List (List StepRun)) → StandsBy setup run.old step_runs →
+        AddsNode setup step_runs rows.old.items rows.new.items run.old run.new node) }
 {
     let seen = run.seen(node);
     let place = usize::from(node);
@@ -84,7 +84,7 @@ fn push_registers(
     rows: &mut Vec<RegisterRow>,
     node: u8,
     port: &Port,
-    kept: &KeptBytes,
+    kept: &UnmodelledRegisters,
     seen: &BufferView,
 ) -> Result<(), AllocError>
     ensures { OnOk result (rows.new.items ≡ rows.old.items ++ node_rows node port.now kept.now seen.now) }
@@ -106,7 +106,7 @@ fn push_some(
     rows: &mut Vec<RegisterRow>,
     node: u8,
     port: &Port,
-    kept: &KeptBytes,
+    kept: &UnmodelledRegisters,
     seen: &BufferView,
     addresses: &[u8],
 ) -> Result<(), AllocError>
@@ -128,7 +128,12 @@ fn push_some(
 }
 
 /// What a read of an address answers, before it clears anything.
-fn shown_value(port: &Port, kept: &KeptBytes, seen: &BufferView, address: u8) -> Option<u8>
+fn shown_value(
+    port: &Port,
+    kept: &UnmodelledRegisters,
+    seen: &BufferView,
+    address: u8,
+) -> Option<u8>
     ensures { result ≡ shown_value port.now kept.now seen.now address }
 {
     match port.peek(address, seen) {

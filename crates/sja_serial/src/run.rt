@@ -1,21 +1,22 @@
 //! [`run_serial`]: a whole run in one thread.
 
 ghost use Rattle.std.specs.Prelude.{◌≡◌, ◌<◌, List, [], length, map, replicate, IfOk, IfErr};
-ghost use Rattle.sja_wire.specs.Buses.{new_bus};
-ghost use Rattle.sja_link.specs.Sizes.{most_activations};
-ghost use Rattle.sja_driver.specs.Accesses.{Access, most_deeds};
+ghost use Rattle.sja_bus_rules.specs.Buses.{new_bus};
+ghost use Rattle.sja_journal.specs.Sizes.{most_activations};
+ghost use Rattle.sja_driver.specs.StepRuns.{StepRun, most_acts};
 ghost use Rattle.sja_plan.specs.Plan.{NamesNode, step_counts};
-ghost use Rattle.sja_log.specs.Headline.{AreAccounts};
-ghost use Rattle.sja_log.specs.Runs.{IsSerialRun};
+ghost use Rattle.sja_promises.specs.Headline.{AreAccounts};
+ghost use Rattle.sja_promises.specs.Runs.{IsSerialRun};
 ghost use Rattle.sja_log.specs.declared.run_fault.RunFault.TheVariants.{Memory};
-ghost use Rattle.sja_serial.specs.Inside.Going.{StandsIn, IsRunIn, TakesTurns};
+ghost use Rattle.sja_serial.specs.Inside.SerialProgress.{StandsIn, IsRunIn, TakesTurns};
 ghost use Rattle.sja_serial.specs.Inside.Turning.{TakesOne};
 
 use super::node_turns::{go_turn, take_all_steps, take_steps};
 use super::serial_run::SerialRun;
 use can_frame::OutOfMemory;
-use sja_log::{End, NoLog, RunFault, RunLog, script_of};
+use sja_log::{End, NoLog, RunFault, RunLog};
 use sja_plan::{Plan, Turn};
+use sja_promises::script_of;
 use std::alloc::Global;
 
 /// Runs a plan in one thread, and gives the log of the run.
@@ -50,7 +51,7 @@ pub fn run_serial(alloc: Global, plan: &Plan) -> Result<RunLog, RunFault>
 pub(crate) fn new_run(alloc: Global, plan: &Plan) -> Result<SerialRun, OutOfMemory>
     ensures stands { IfOk result (λ r. StandsIn plan.now r (replicate (length plan.now.nodes) [])) }
     ensures bus { IfOk result (λ r. r.bus ≡ new_bus plan.now.strikes plan.now.bits (length plan.now.nodes)
-        (most_activations plan.now.version) (map (most_deeds plan.now.version) (step_counts plan.now))) }
+        (most_activations plan.now.version) (map (most_acts plan.now.version) (step_counts plan.now))) }
 {
     plan.limits();
     let script = script_of(alloc, plan)?;
@@ -62,7 +63,7 @@ pub(crate) fn new_run(alloc: Global, plan: &Plan) -> Result<SerialRun, OutOfMemo
 pub(crate) fn take_turns(run: &mut SerialRun, plan: &Plan) -> End
     requires stands { StandsIn plan.now run.old (replicate (length plan.now.nodes) []) }
     requires bus { run.old.bus ≡ new_bus plan.now.strikes plan.now.bits (length plan.now.nodes)
-        (most_activations plan.now.version) (map (most_deeds plan.now.version) (step_counts plan.now)) }
+        (most_activations plan.now.version) (map (most_acts plan.now.version) (step_counts plan.now)) }
     ensures { TakesTurns plan.now run.new result }
 {
     for turn in plan.turns() {
@@ -77,8 +78,8 @@ pub(crate) fn take_turns(run: &mut SerialRun, plan: &Plan) -> End
 fn take_one(run: &mut SerialRun, plan: &Plan, turn: &Turn) -> bool
     requires run { IsRunIn plan.now run.old }
     requires names { NamesNode (length plan.now.nodes) turn.now }
-    ensures { (accesses : List (List Access)) → StandsIn plan.now run.old accesses →
-        TakesOne plan.now accesses run.old run.new turn.now result }
+    ensures { (step_runs : List (List StepRun)) → StandsIn plan.now run.old step_runs →
+        TakesOne plan.now step_runs run.old run.new turn.now result }
 {
     match *turn {
         Turn::Node(node, count) => {

@@ -1,31 +1,31 @@
-//! One deed of a node's driver, with the taking of what it gave.
+//! One act of a node's driver, with the taking of what it gave.
 
 ghost use Rattle.std.specs.Prelude.{◌≡◌, Option, true};
-ghost use Rattle.sja_driver.specs.Inside.GivenNothing.{GaveNothing, GivesNothing};
+ghost use Rattle.sja_driver.specs.GivenNothing.{GaveNothing, GivesNothing};
 
 use super::serial_run::SerialRun;
 use sja_regs::Command;
-use sja_script::{Step, StepAnswer};
+use sja_steps::{Step, StepAnswer};
 
 impl SerialRun {
     ghost use Rattle.std.specs.Prelude.{◌≡◌, ◌<◌, List, IfSome, None, length, slice_index_or};
-    ghost use Rattle.sja_driver.specs.Deeds.{Deed, deeds_at};
+    ghost use Rattle.sja_driver.specs.TypedActs.{TypedAct, acts_at};
     ghost use Rattle.sja_serial.specs.Serial.{Setup, StandsAt};
-    ghost use Rattle.sja_serial.specs.Stepping.{DoesDeed, DoesNothing, HasDeedLeft};
+    ghost use Rattle.sja_serial.specs.Stepping.{DoesAct, DoesNothing, HasActLeft};
 
-    /// Tries this step as one deed of the driver of a node, counted from 0, and takes what it gave: the bus refuses no
+    /// Tries this step as one act of the driver of a node, counted from 0, and takes what it gave: the bus refuses no
     /// item of it. It gives the answer; none where the step has to wait, and nothing happened. No bit is run, and the
     /// driver's log has nothing of it.
     #[inline(always)]
-    pub(crate) fn deed(&mut self, node: u8, step: &Step) -> Option<StepAnswer>
+    pub(crate) fn act(&mut self, node: u8, step: &Step) -> Option<StepAnswer>
         ghost setup: { Setup }
-        requires room { HasDeedLeft setup self.old node }
-        ensures done { IfSome result (λ answer. (deeds : List (List Deed)) → StandsAt setup self.old deeds →
-            length (deeds_at deeds node) < slice_index_or setup.steps node 0 →
-            DoesDeed setup self.old self.new node step.now answer deeds) }
-        ensures waits { result ≡ None → (deeds : List (List Deed)) → StandsAt setup self.old deeds →
-            length (deeds_at deeds node) < slice_index_or setup.steps node 0 →
-            DoesNothing setup self.old self.new node step.now deeds }
+        requires room { HasActLeft setup self.old node }
+        ensures done { IfSome result (λ answer. (acts : List (List TypedAct)) → StandsAt setup self.old acts →
+            length (acts_at acts node) < slice_index_or setup.steps node 0 →
+            DoesAct setup self.old self.new node step.now answer acts) }
+        ensures waits { result ≡ None → (acts : List (List TypedAct)) → StandsAt setup self.old acts →
+            length (acts_at acts node) < slice_index_or setup.steps node 0 →
+            DoesNothing setup self.old self.new node step.now acts }
     {
         let index = usize::from(node);
         let links = self.links.as_mut_slice();

@@ -5,9 +5,9 @@ use super::serial_run::SerialRun;
 
 impl SerialRun {
     ghost use Rattle.std.specs.Prelude.{◌≡◌, ◌≢◌, ◌+◌, ◌<◌, ◌≤◌, ℕ, false, List};
-    ghost use Rattle.sja_script.specs.Striking.{Strikes};
-    ghost use Rattle.sja_wire.specs.Lawful.{IsBusRun};
-    ghost use Rattle.sja_driver.specs.Deeds.{Deed};
+    ghost use Rattle.sja_steps.specs.Striking.{Strikes};
+    ghost use Rattle.sja_bus_rules.specs.Lawful.{IsBusRun};
+    ghost use Rattle.sja_driver.specs.TypedActs.{TypedAct};
     ghost use Rattle.sja_serial.specs.Serial.{Setup, StandsAt, IsRunOf};
     ghost use Rattle.sja_bus.specs.Boards.{HasOrders};
     ghost use Rattle.sja_bus.specs.UntilTold.{IsCalm, RunsNone};
@@ -26,8 +26,8 @@ impl SerialRun {
         ensures unstruck { 2 ≤ result → (i node : ℕ) → i < result → node < 8 →
             Strikes self.old.bus.script (self.old.bus.run + i) node → ⊥ }
         ensures calm { 2 ≤ result → IsCalm (HasOrders self.old.ports) self.old.bus }
-        ensures bits { (deeds : List (List Deed)) → StandsAt setup self.old deeds →
-            TakesUntilTold setup deeds self.old result self.new }
+        ensures bits { (acts : List (List TypedAct)) → StandsAt setup self.old acts →
+            TakesUntilTold setup acts self.old result self.new }
         ensures longest { result ≢ 0 → EndsUntilTold count self.old result self.new }
         ensures stays { IsRunOf setup self.new }
     {
@@ -50,8 +50,8 @@ impl SerialRun {
         ensures unstruck { 2 ≤ result → (i node : ℕ) → i < result → node < 8 →
             Strikes self.old.bus.script (self.old.bus.run + i) node → ⊥ }
         ensures calm { 2 ≤ result → IsCalm (HasOrders self.old.ports) self.old.bus }
-        ensures bits { (deeds : List (List Deed)) → StandsAt setup self.old deeds →
-            TakesUntilTold setup deeds self.old result self.new }
+        ensures bits { (acts : List (List TypedAct)) → StandsAt setup self.old acts →
+            TakesUntilTold setup acts self.old result self.new }
         ensures longest { EndsUntilTold count self.old result self.new }
         ensures stays { IsRunOf setup self.new }
     {
@@ -72,8 +72,8 @@ impl SerialRun {
         ensures most { result ≤ count }
         ensures unstruck { (i node : ℕ) → i < result → node < 8 →
             Strikes self.old.bus.script (self.old.bus.run + i) node → ⊥ }
-        ensures bits { (deeds : List (List Deed)) → StandsAt setup self.old deeds →
-            TakesUntilTold setup deeds self.old result self.new }
+        ensures bits { (acts : List (List TypedAct)) → StandsAt setup self.old acts →
+            TakesUntilTold setup acts self.old result self.new }
         ensures longest { result ≢ 0 → EndsUntilTold count self.old result self.new }
         ensures none { result ≡ 0 → RunsNone (HasOrders self.old.ports) false count self.old.bus }
         ensures calm { result ≢ 0 → IsCalm (HasOrders self.old.ports) self.old.bus }

@@ -1,15 +1,15 @@
-//! A write of a driver that knows addresses and bytes alone: most are one deed, some are two or three.
+//! A write of a driver that knows addresses and bytes alone: most are one act, some are two or three.
 
 use super::serial_run::SerialRun;
 use sja_driver::{Written, is_start, is_stop, is_typed_write, steps_of_write, written_command};
 use sja_regs::address::{CMR, MOD};
-use sja_script::Step;
+use sja_steps::Step;
 
 impl SerialRun {
     ghost use Rattle.std.specs.Prelude.{◌≡◌, List, true, ◌∷◌, []};
-    ghost use Rattle.sja_driver.specs.Accesses.{Access, by_bytes};
+    ghost use Rattle.sja_driver.specs.StepRuns.{StepRun, by_bytes};
     ghost use Rattle.sja_driver.specs.WriteLists.{IsPrompt};
-    ghost use Rattle.sja_script.specs.declared.step.Step.TheVariants.{Write};
+    ghost use Rattle.sja_steps.specs.declared.step.Step.TheVariants.{Write};
     ghost use Rattle.sja_serial.specs.Inside.Accessing.{IsSteps};
     ghost use Rattle.sja_serial.specs.Serial.{Setup, StandsBy, IsRunBy};
     ghost use Rattle.sja_serial.specs.Stepping.{DoesStep, HasRoomLeft};
@@ -21,8 +21,8 @@ impl SerialRun {
         requires run { IsRunBy setup self.old }
         requires room { HasRoomLeft setup self.old node }
         requires bytes { by_bytes setup.version ≡ true }
-        ensures { (accesses : List (List Access)) → StandsBy setup self.old accesses →
-            DoesStep setup self.old self.new node (Write address value) accesses }
+        ensures { (step_runs : List (List StepRun)) → StandsBy setup self.old step_runs →
+            DoesStep setup self.old self.new node (Write address value) step_runs }
     {
         if is_typed_write(&self.board.ports[usize::from(node)], address, value) {
             return self.write_alone(node, address, value, &Step::Write(address, value));
@@ -40,8 +40,8 @@ impl SerialRun {
         requires run { IsRunBy setup self.old }
         requires room { HasRoomLeft setup self.old node }
         requires bytes { by_bytes setup.version ≡ true }
-        ensures { (accesses : List (List Access)) → StandsBy setup self.old accesses →
-            DoesStep setup self.old self.new node (Write 1 value) accesses }
+        ensures { (step_runs : List (List StepRun)) → StandsBy setup self.old step_runs →
+            DoesStep setup self.old self.new node (Write 1 value) step_runs }
     {
         let written = written_command(&self.board.ports[usize::from(node)], value);
         if written.releases {
@@ -61,8 +61,8 @@ impl SerialRun {
         requires run { IsRunBy setup self.old }
         requires room { HasRoomLeft setup self.old node }
         requires bytes { by_bytes setup.version ≡ true }
-        ensures { (accesses : List (List Access)) → StandsBy setup self.old accesses →
-            DoesStep setup self.old self.new node (Write 0 value) accesses }
+        ensures { (step_runs : List (List StepRun)) → StandsBy setup self.old step_runs →
+            DoesStep setup self.old self.new node (Write 0 value) step_runs }
     {
         let place = usize::from(node);
         let port = &self.board.ports[place];
@@ -75,7 +75,7 @@ impl SerialRun {
         self.write_parts(node, MOD, value);
     }
 
-    /// A write that is this one deed.
+    /// A write that is this one act.
     #[inline(always)]
     fn write_alone(&mut self, node: u8, address: u8, value: u8, step: &Step)
         ghost setup: { Setup }
@@ -84,11 +84,11 @@ impl SerialRun {
         requires bytes { by_bytes setup.version ≡ true }
         requires prompt { IsPrompt step.now }
         requires one { IsSteps setup self.old node address value (step.now ∷ []) }
-        ensures { (accesses : List (List Access)) → StandsBy setup self.old accesses →
-            DoesStep setup self.old self.new node (Write address value) accesses }
+        ensures { (step_runs : List (List StepRun)) → StandsBy setup self.old step_runs →
+            DoesStep setup self.old self.new node (Write address value) step_runs }
     {
         let mut written = self.begin_write(node, address, value);
-        match self.deed(node, step) {
+        match self.act(node, step) {
             Some(answer) => {
                 written.answered(&answer);
                 self.enter(node, written.answer(), written.kept);
@@ -100,23 +100,23 @@ impl SerialRun {
 
 impl SerialRun {
     ghost use Rattle.std.specs.Prelude.{◌≡◌, ◌+◌, ◌<◌, List, true, length, slice_index_or};
-    ghost use Rattle.sja_driver.specs.Accesses.{Access, accesses_at, by_bytes, deeds_in};
-    ghost use Rattle.sja_driver.specs.Deeds.{Deed};
+    ghost use Rattle.sja_driver.specs.StepRuns.{StepRun, step_runs_at, by_bytes, acts_in};
+    ghost use Rattle.sja_driver.specs.TypedActs.{TypedAct};
     ghost use Rattle.sja_driver.specs.WriteLists.{IsPromptIf};
-    ghost use Rattle.sja_script.specs.declared.step.Step.TheVariants.{Write};
-    ghost use Rattle.sja_serial.specs.Inside.Accessing.{BeginsWrite, DoesDeeds, DoesPart};
+    ghost use Rattle.sja_steps.specs.declared.step.Step.TheVariants.{Write};
+    ghost use Rattle.sja_serial.specs.Inside.Accessing.{BeginsWrite, DoesActs, DoesPart};
     ghost use Rattle.sja_serial.specs.Serial.{Setup, SerialValue, StandsBy, IsRunBy};
-    ghost use Rattle.sja_serial.specs.Stepping.{DoesStep, HasDeedLeft, HasRoomLeft};
+    ghost use Rattle.sja_serial.specs.Stepping.{DoesStep, HasActLeft, HasRoomLeft};
 
-    /// A write, whatever deeds it is, none to three.
+    /// A write, whatever acts it is, none to three.
     #[inline(always)]
     fn write_parts(&mut self, node: u8, address: u8, value: u8)
         ghost setup: { Setup }
         requires run { IsRunBy setup self.old }
         requires room { HasRoomLeft setup self.old node }
         requires bytes { by_bytes setup.version ≡ true }
-        ensures { (accesses : List (List Access)) → StandsBy setup self.old accesses →
-            DoesStep setup self.old self.new node (Write address value) accesses }
+        ensures { (step_runs : List (List StepRun)) → StandsBy setup self.old step_runs →
+            DoesStep setup self.old self.new node (Write address value) step_runs }
     {
         // Asked for what holds of every bus.
         let _ = self.bits_left();
@@ -147,16 +147,16 @@ impl SerialRun {
     fn part(&mut self, node: u8, part: &Option<Step>, on: Written) -> Written
         ghost setup: { Setup }
         requires prompt { IsPromptIf part.now }
-        requires room { HasDeedLeft setup self.old node }
-        ensures { (was : SerialValue) (accesses : List (List Access)) (more : List Deed) →
-            StandsBy setup was accesses → DoesDeeds setup was self.old node accesses more →
-            length (deeds_in (accesses_at accesses node)) + length more < slice_index_or setup.steps node 0 →
-            DoesPart setup was self.new node accesses more part.now on result }
+        requires room { HasActLeft setup self.old node }
+        ensures { (was : SerialValue) (step_runs : List (List StepRun)) (more : List TypedAct) →
+            StandsBy setup was step_runs → DoesActs setup was self.old node step_runs more →
+            length (acts_in (step_runs_at step_runs node)) + length more < slice_index_or setup.steps node 0 →
+            DoesPart setup was self.new node step_runs more part.now on result }
     {
         let Some(step) = part else {
             return on;
         };
-        match self.deed(node, step) {
+        match self.act(node, step) {
             Some(answer) => {
                 let mut written = on;
                 written.answered(&answer);

@@ -1,8 +1,8 @@
 -- How a session begins (this project's own rule).
 use Rattle.std.specs.Prelude.{◌≤◌, ◌<◌, ◌⊎◌, ◌^◌, ℕ, [], replicate}
-use Rattle.sja_link.specs.Sizes.{most_activations}
-use Rattle.sja_wire.specs.Buses.{BusValue, new_bus}
-use Rattle.sja_driver.specs.Accesses.{most_deeds}
+use Rattle.sja_journal.specs.Sizes.{most_activations}
+use Rattle.sja_bus_rules.specs.Buses.{BusValue, new_bus}
+use Rattle.sja_driver.specs.StepRuns.{most_acts}
 use Rattle.sja_plan.specs.Limits.{most_bits, most_steps, most_turns}
 use Rattle.sja_session.specs.declared.session_fault.SessionFault.{SessionFault}
 use Rattle.sja_session.specs.declared.session_fault.SessionFault.TheVariants.{Version, Bits, NodeCount, Memory}
@@ -25,7 +25,7 @@ endless_room = record { steps = 2 ^ 56; turns = 0 }
 -- many nodes, with links for as many activations of each as the version has, and room for so many steps of each driver
 abbrev pub fresh_bus : ℕ → ℕ → ℕ → ℕ → BusValue
 fresh_bus version bits nodes steps =
-    new_bus [] bits nodes (most_activations version) (replicate nodes (most_deeds version steps))
+    new_bus [] bits nodes (most_activations version) (replicate nodes (most_acts version steps))
 
 -- these are within the limits of a session, which are those of a plan of its version
 abbrev pub IsVersion : ℕ → Type 0

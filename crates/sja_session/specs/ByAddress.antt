@@ -2,20 +2,20 @@
 -- rule). In version 3 each is one step of the plan. In versions 1 and 2, whose steps are typed, a read is the step
 -- `Read`, and a write is those typed steps that do the same.
 use Rattle.std.specs.Prelude.{◌≡◌, ◌<◌, ◌≤◌, ◌⊎◌, ◌+◌, ℕ, Bool, true, false, List, [], ◌∷◌, length, slice_index_or}
-use Rattle.sja_wire.specs.Wire.{journal_at}
+use Rattle.sja_bus_rules.specs.Wire.{journal_at}
 use Rattle.sja_plan.specs.declared.turn.Turn.TheVariants.{Node}
 use Rattle.sja_regs.specs.declared.registers.Registers.{Registers}
-use Rattle.sja_script.specs.declared.step.Step.{Step}
-use Rattle.sja_script.specs.declared.step.Step.TheVariants.{Read, Write}
-use Rattle.sja_script.specs.declared.step_answer.StepAnswer.{StepAnswer}
-use Rattle.sja_driver.specs.Accesses.{Access, accesses_at, by_bytes, deeds_in}
-use Rattle.sja_driver.specs.Deeds.{is_active}
+use Rattle.sja_steps.specs.declared.step.Step.{Step}
+use Rattle.sja_steps.specs.declared.step.Step.TheVariants.{Read, Write}
+use Rattle.sja_steps.specs.declared.step_answer.StepAnswer.{StepAnswer}
+use Rattle.sja_driver.specs.StepRuns.{StepRun, step_runs_at, by_bytes, acts_in}
+use Rattle.sja_driver.specs.TypedActs.{is_active}
 use Rattle.sja_driver.specs.LoggedDrivers.{kept_of}
 use Rattle.sja_driver.specs.declared.logged_driver.LoggedDriver.{LoggedDriver}
-use Rattle.sja_driver.specs.Reads.{raw_value}
+use Rattle.sja_driver.specs.Reads.{value_by_bytes}
 use Rattle.sja_driver.specs.Writes.{write_steps}
-use Rattle.sja_log.specs.Registering.{seen_now}
-use Rattle.sja_serial.specs.Stepping.{with_accesses}
+use Rattle.sja_promises.specs.Registering.{seen_now}
+use Rattle.sja_serial.specs.Stepping.{with_step_runs}
 use Rattle.sja_session.specs.declared.step_fault.StepFault.{StepFault}
 use Rattle.sja_session.specs.declared.step_fault.StepFault.TheVariants.{NoNode, StepsUsed, TurnsUsed}
 use Rattle.sja_session.specs.Sessions.{SessionValue}
@@ -25,13 +25,13 @@ use Rattle.sja_session.specs.Stepping.{HasTurn, LacksTurn, DoesStep, steps_done_
 
 -- these steps of a node were done, one right after the other, with these answers: the first by the session as it was,
 -- each other one by what the one before it left
-pub data DoesSteps (node : ℕ) : SessionValue → List (List Access) → List Step → List StepAnswer → SessionValue →
-    List (List Access) → Type 0 where
-  none : {s : SessionValue} {accesses : List (List Access)} → DoesSteps node s accesses [] [] s accesses
-  more : {was mid now : SessionValue} {accesses after : List (List Access)} {step : Step} {answer : StepAnswer}
-      {steps : List Step} {answers : List StepAnswer} (does : DoesStep was mid node step answer accesses) →
-      DoesSteps node mid (with_accesses accesses node (does.access ∷ [])) steps answers now after →
-      DoesSteps node was accesses (step ∷ steps) (answer ∷ answers) now after
+pub data DoesSteps (node : ℕ) : SessionValue → List (List StepRun) → List Step → List StepAnswer → SessionValue →
+    List (List StepRun) → Type 0 where
+  none : {s : SessionValue} {step_runs : List (List StepRun)} → DoesSteps node s step_runs [] [] s step_runs
+  more : {was mid now : SessionValue} {step_runs after : List (List StepRun)} {step : Step} {answer : StepAnswer}
+      {steps : List Step} {answers : List StepAnswer} (does : DoesStep was mid node step answer step_runs) →
+      DoesSteps node mid (with_step_runs step_runs node (does.step_run ∷ [])) steps answers now after →
+      DoesSteps node was step_runs (step ∷ steps) (answer ∷ answers) now after
 
 -- ---- whether they may be tried
 
@@ -57,12 +57,12 @@ IsAccessFault s node count TurnsUsed =
 
 -- an address was read: that is the step `Read`, and the value is that of the register of the port that stands there, by
 -- the registers and the messages as they were, or of the kept one, or 0
-pub record Reads (was now : SessionValue) (node address value : ℕ) (accesses : List (List Access)) : Type 0 where
+pub record Reads (was now : SessionValue) (node address value : ℕ) (step_runs : List (List StepRun)) : Type 0 where
   pub answer : StepAnswer
-  pub does : DoesStep was now node (Read address) answer accesses
-  pub is : (d : LoggedDriver) (p : Registers) → let deeds = deeds_in (accesses_at accesses node) in
-      value ≡ raw_value (slice_index_or was.run.ports node p) (kept_of (slice_index_or was.run.drivers node d))
-      (seen_now (is_active deeds) (journal_at was.run.bus.journals node) deeds) address
+  pub does : DoesStep was now node (Read address) answer step_runs
+  pub is : (d : LoggedDriver) (p : Registers) → let acts = acts_in (step_runs_at step_runs node) in
+      value ≡ value_by_bytes (slice_index_or was.run.ports node p) (kept_of (slice_index_or was.run.drivers node d))
+      (seen_now (is_active acts) (journal_at was.run.bus.journals node) acts) address
 
 -- ---- writes
 
@@ -73,22 +73,22 @@ steps_by true p active address value = Write address value ∷ []
 steps_by false p active address value = write_steps p active address value
 
 -- in the session's version, by the registers as they were and by whether the driver was out of reset
-abbrev pub steps_of : SessionValue → ℕ → ℕ → ℕ → List (List Access) → Registers → List Step
-steps_of s node address value accesses p = steps_by (by_bytes s.plan.version) (slice_index_or s.run.ports node p)
-    (is_active (deeds_in (accesses_at accesses node))) address value
+abbrev pub steps_of : SessionValue → ℕ → ℕ → ℕ → List (List StepRun) → Registers → List Step
+steps_of s node address value step_runs p = steps_by (by_bytes s.plan.version) (slice_index_or s.run.ports node p)
+    (is_active (acts_in (step_runs_at step_runs node))) address value
 
 -- such a write may be done, and why it may not
-abbrev pub MayWrite : SessionValue → ℕ → ℕ → ℕ → List (List Access) → Type 0
-MayWrite s node address value accesses =
-    (p : Registers) → MayDo s node (length (steps_of s node address value accesses p))
+abbrev pub MayWrite : SessionValue → ℕ → ℕ → ℕ → List (List StepRun) → Type 0
+MayWrite s node address value step_runs =
+    (p : Registers) → MayDo s node (length (steps_of s node address value step_runs p))
 
-abbrev pub IsWriteFault : SessionValue → ℕ → ℕ → ℕ → List (List Access) → StepFault → Type 0
-IsWriteFault s node address value accesses fault =
-    (p : Registers) → IsAccessFault s node (length (steps_of s node address value accesses p)) fault
+abbrev pub IsWriteFault : SessionValue → ℕ → ℕ → ℕ → List (List StepRun) → StepFault → Type 0
+IsWriteFault s node address value step_runs fault =
+    (p : Registers) → IsAccessFault s node (length (steps_of s node address value step_runs p)) fault
 
 -- an address was written: the steps that this is were done
-pub record Writes (was now : SessionValue) (node address value : ℕ) (accesses : List (List Access)) : Type 0 where
+pub record Writes (was now : SessionValue) (node address value : ℕ) (step_runs : List (List StepRun)) : Type 0 where
   pub answers : List StepAnswer
-  pub after : List (List Access)
+  pub after : List (List StepRun)
   pub does : (p : Registers) →
-      DoesSteps node was accesses (steps_of was node address value accesses p) answers now after
+      DoesSteps node was step_runs (steps_of was node address value step_runs p) answers now after

@@ -9,10 +9,13 @@ pub mod Ending
 pub mod Answering
 pub mod Stepping
 pub mod Running
-pub mod Resting
+pub mod SessionRest
 pub mod Lines
 pub mod Watching
 pub mod Striking
-pub mod Placing
+pub mod SessionPlaces
 pub mod ByAddress
 pub mod Inside
+
+-- ---- the face: the lemmas that proofs of other crates cite
+-- face: proofs.WrittenPlan.OneMore.{steps_many}

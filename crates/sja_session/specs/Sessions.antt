@@ -6,10 +6,10 @@ use Rattle.sja_plan.specs.declared.turn.Turn.TheVariants.{Bus, Node}
 use Rattle.sja_plan.specs.Growing.{plan_of}
 use Rattle.sja_plan.specs.Limits.{most_bits, most_steps, most_turns}
 use Rattle.sja_plan.specs.Plan.{PlanValue, NamesNode}
-use Rattle.sja_script.specs.declared.step.Step.{Step}
-use Rattle.sja_script.specs.declared.strike.Strike.{Strike}
-use Rattle.sja_driver.specs.Accesses.{Access, accesses_at, most_deeds}
-use Rattle.sja_log.specs.Turns.{Progress, with_bits, with_steps, steps_done}
+use Rattle.sja_steps.specs.declared.step.Step.{Step}
+use Rattle.sja_steps.specs.declared.strike.Strike.{Strike}
+use Rattle.sja_driver.specs.StepRuns.{StepRun, step_runs_at, most_acts}
+use Rattle.sja_promises.specs.Turns.{Progress, with_bits, with_steps, steps_done}
 use Rattle.sja_serial.specs.Ending.{progress}
 use Rattle.sja_serial.specs.Serial.{Setup, SerialValue, StandsBy}
 use Rattle.sja_session.specs.declared.session_room.SessionRoom.{SessionRoom}
@@ -56,7 +56,7 @@ setup_for p size = record {
   bits = p.bits;
   strikes = p.strikes;
   nodes = length p.nodes;
-  steps = replicate (length p.nodes) (most_deeds (run_version p) size);
+  steps = replicate (length p.nodes) (most_acts (run_version p) size);
 }
 
 -- for what its run was made
@@ -64,20 +64,20 @@ abbrev pub setup_by : SessionValue → Setup
 setup_by s = setup_for (written s) s.room.steps
 
 -- the steps that these are, as a plan has them, of each node
-abbrev pub steps_in : List (List Access) → List (List Step)
-steps_in = map (λ (accesses : List Access). map (λ (a : Access). a.step) accesses)
+abbrev pub steps_in : List (List StepRun) → List (List Step)
+steps_in = map (λ (step_runs : List StepRun). map (λ (a : StepRun). a.step) step_runs)
 
 -- these turns, latest first, led from the first point of the run to this one, and each was taken whole: its bits were
 -- run, or its steps were done, all after the same bits
-pub data Took (accesses : List (List Access)) (first : Progress) : List Turn → Progress → Type 0 where
-  none : Took accesses first [] first
-  bus : (earlier : List Turn) (p : Progress) (n : ℕ) → Took accesses first earlier p →
-      Took accesses first (Bus n ∷ earlier) (with_bits p n)
-  node : (earlier : List Turn) (p : Progress) (k n : ℕ) → Took accesses first earlier p →
-      steps_done p k + n ≤ length (accesses_at accesses k) →
-      ((i : ℕ) (a : Access) → i < n →
-      (slice_index_or (accesses_at accesses k) (steps_done p k + i) a).bits ≡ p.bits) →
-      Took accesses first (Node k n ∷ earlier) (with_steps p k n)
+pub data Took (step_runs : List (List StepRun)) (first : Progress) : List Turn → Progress → Type 0 where
+  none : Took step_runs first [] first
+  bus : (earlier : List Turn) (p : Progress) (n : ℕ) → Took step_runs first earlier p →
+      Took step_runs first (Bus n ∷ earlier) (with_bits p n)
+  node : (earlier : List Turn) (p : Progress) (k n : ℕ) → Took step_runs first earlier p →
+      steps_done p k + n ≤ length (step_runs_at step_runs k) →
+      ((i : ℕ) (a : StepRun) → i < n →
+      (slice_index_or (step_runs_at step_runs k) (steps_done p k + i) a).bits ≡ p.bits) →
+      Took step_runs first (Node k n ∷ earlier) (with_steps p k n)
 
 -- where every run begins
 abbrev pub start_of : ℕ → Progress
@@ -85,11 +85,11 @@ start_of nodes = record { bits = 0; done = replicate nodes 0 }
 
 -- the session stands where its drivers did these steps: its run does, they were written, and where it has an end its
 -- turns led there
-pub record IsAt (s : SessionValue) (accesses : List (List Access)) : Type 0 where
-  pub stands : StandsBy (setup_by s) s.run accesses
-  pub steps : steps_in accesses ≡ s.steps
+pub record IsAt (s : SessionValue) (step_runs : List (List StepRun)) : Type 0 where
+  pub stands : StandsBy (setup_by s) s.run step_runs
+  pub steps : steps_in step_runs ≡ s.steps
   pub count : length s.steps ≡ length s.plan.nodes
-  pub took : HasEnd s → Took accesses (start_of (length s.plan.nodes)) (reverse s.turns) (progress s.run accesses)
+  pub took : HasEnd s → Took step_runs (start_of (length s.plan.nodes)) (reverse s.turns) (progress s.run step_runs)
 
 -- each of these turns is of a node that is there
 abbrev pub AreNamed : ℕ → List Turn → Type 0
@@ -100,8 +100,8 @@ AreNamed nodes (t ∷ turns) = NamesNode nodes t × AreNamed nodes turns
 -- node that is there. Where it has an end its steps and turns are within the limits of a plan of its version, and there
 -- is room for one turn more; else it goes by the rules of version 3, and its room is one that can be counted
 pub record IsSession (s : SessionValue) (sizes : List ℕ) (capacity : ℕ) : Type 0 where
-  pub accesses : List (List Access)
-  pub at : IsAt s accesses
+  pub step_runs : List (List StepRun)
+  pub at : IsAt s step_runs
   pub rules : IsEndless s → s.plan.version ≡ 3
   pub places : (node : ℕ) → node < length s.plan.nodes → slice_index_or sizes node 0 ≡ s.room.steps
   pub done : (node : ℕ) → node < length s.plan.nodes → length (slice_index_or s.steps node []) ≤ s.room.steps

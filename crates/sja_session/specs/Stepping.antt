@@ -1,20 +1,20 @@
 -- A step that a session does (this project's own rule).
 use Rattle.std.specs.Prelude.{◌≡◌, ◌≢◌, ◌<◌, ◌≤◌, ◌⊎◌, ℕ, true, false, List, [], ◌∷◌, length, reverse}
 use Rattle.std.specs.Prelude.{slice_index_or}
-use Rattle.sja_wire.specs.Wire.{journal_at}
+use Rattle.sja_bus_rules.specs.Wire.{journal_at}
 use Rattle.sja_plan.specs.declared.turn.Turn.{Turn}
 use Rattle.sja_plan.specs.declared.turn.Turn.TheVariants.{Node}
 use Rattle.sja_regs.specs.declared.registers.Registers.{Registers}
 use Rattle.sja_regs.specs.Registers.{at_power_on}
-use Rattle.sja_script.specs.declared.step.Step.{Step}
-use Rattle.sja_script.specs.declared.step_answer.StepAnswer.{StepAnswer}
-use Rattle.sja_driver.specs.Accesses.{Access, IsAccess, accesses_at, deeds_in}
-use Rattle.sja_driver.specs.Deeds.{is_active}
+use Rattle.sja_steps.specs.declared.step.Step.{Step}
+use Rattle.sja_steps.specs.declared.step_answer.StepAnswer.{StepAnswer}
+use Rattle.sja_driver.specs.StepRuns.{StepRun, IsStepRun, step_runs_at, acts_in}
+use Rattle.sja_driver.specs.TypedActs.{is_active}
 use Rattle.sja_driver.specs.LoggedDrivers.{kept_of}
 use Rattle.sja_driver.specs.declared.logged_driver.LoggedDriver.{LoggedDriver}
-use Rattle.sja_log.specs.Registering.{LeadOn, seen_now}
-use Rattle.sja_log.specs.Waiting.{HasToWait}
-use Rattle.sja_serial.specs.Stepping.{with_accesses}
+use Rattle.sja_promises.specs.Registering.{LeadOn, seen_now}
+use Rattle.sja_promises.specs.Waiting.{HasToWait}
+use Rattle.sja_serial.specs.Stepping.{with_step_runs}
 use Rattle.sja_session.specs.declared.step_fault.StepFault.{StepFault}
 use Rattle.sja_session.specs.declared.step_fault.StepFault.TheVariants.{NoNode, StepsUsed, TurnsUsed}
 use Rattle.sja_session.specs.Sessions.{SessionValue, HasEnd, IsAt, IsEndless, written}
@@ -50,27 +50,27 @@ IsStepFault s node TurnsUsed =
 
 -- ---- what comes of it
 
--- the step was done with this answer, after the bits that had run, and no bit was run. It was its deeds, by the
+-- the step was done with this answer, after the bits that had run, and no bit was run. It was its acts, by the
 -- registers of the node's port as they were, by the messages that had come and by what was kept. The node's journal and
 -- port are as these left them, one right after the other, each other one is as it was, and the plan has the step more
 pub record DoesStep (was now : SessionValue) (node : ℕ) (step : Step) (answer : StepAnswer)
-    (accesses : List (List Access)) : Type 0 where
-  pub access : Access
-  pub is : access.step ≡ step
-  pub answered : access.answer ≡ answer
-  pub when : access.bits ≡ was.run.bits
-  pub what : (d : LoggedDriver) (p : Registers) → let deeds = deeds_in (accesses_at accesses node) in
-      IsAccess was.plan.version (slice_index_or was.run.ports node p)
-      (seen_now (is_active deeds) (journal_at was.run.bus.journals node) deeds) (is_active deeds)
-      (kept_of (slice_index_or was.run.drivers node d)) access (kept_of (slice_index_or now.run.drivers node d))
-  pub on : (p : Registers) → LeadOn (deeds_in (accesses_at accesses node)) (journal_at was.run.bus.journals node)
-      (slice_index_or was.run.ports node p) access.deeds (journal_at now.run.bus.journals node)
+    (step_runs : List (List StepRun)) : Type 0 where
+  pub step_run : StepRun
+  pub is : step_run.step ≡ step
+  pub answered : step_run.answer ≡ answer
+  pub when : step_run.bits ≡ was.run.bits
+  pub what : (d : LoggedDriver) (p : Registers) → let acts = acts_in (step_runs_at step_runs node) in
+      IsStepRun was.plan.version (slice_index_or was.run.ports node p)
+      (seen_now (is_active acts) (journal_at was.run.bus.journals node) acts) (is_active acts)
+      (kept_of (slice_index_or was.run.drivers node d)) step_run (kept_of (slice_index_or now.run.drivers node d))
+  pub on : (p : Registers) → LeadOn (acts_in (step_runs_at step_runs node)) (journal_at was.run.bus.journals node)
+      (slice_index_or was.run.ports node p) step_run.acts (journal_at now.run.bus.journals node)
       (slice_index_or now.run.ports node p)
   pub others : (m : ℕ) → m < length was.plan.nodes → m ≢ node →
       journal_at now.run.bus.journals m ≡ journal_at was.run.bus.journals m
   pub ports : (m : ℕ) (p : Registers) → m ≢ node →
       slice_index_or now.run.ports m p ≡ slice_index_or was.run.ports m p
-  pub at : IsAt now (with_accesses accesses node (access ∷ []))
+  pub at : IsAt now (with_step_runs step_runs node (step_run ∷ []))
   pub bits : now.run.bits ≡ was.run.bits
   pub room : now.room ≡ was.room
   pub wrote : HasEnd was → written now ≡ with_step_done (written was) node step
@@ -79,10 +79,10 @@ pub record DoesStep (was now : SessionValue) (node : ℕ) (step : Step) (answer 
 -- the step has to wait, and nothing happened that the bus, a port or the plan shows: no step was done, no bit was run,
 -- no port, no journal and no kept byte changed, and the plan is the same. The driver may have taken in what its link
 -- showed, no more
-pub record Waits (was now : SessionValue) (node : ℕ) (step : Step) (accesses : List (List Access)) : Type 0 where
+pub record Waits (was now : SessionValue) (node : ℕ) (step : Step) (step_runs : List (List StepRun)) : Type 0 where
   pub why : HasToWait (slice_index_or was.run.ports node (at_power_on 1)) (journal_at was.run.bus.journals node)
-      (deeds_in (accesses_at accesses node)) step
-  pub at : IsAt now accesses
+      (acts_in (step_runs_at step_runs node)) step
+  pub at : IsAt now step_runs
   pub bits : now.run.bits ≡ was.run.bits
   pub ports : now.run.ports ≡ was.run.ports
   pub journals : (m : ℕ) → m < length was.plan.nodes →

@@ -3,7 +3,7 @@ use Rattle.std.specs.Prelude.{◌≡◌, ◌<◌, ◌≤◌, ℕ, List, length}
 use Rattle.sja_plan.specs.Limits.{most_strikes}
 use Rattle.sja_plan.specs.Plan.{times_in}
 use Rattle.sja_plan.specs.Struck.{one_strike, struck_at}
-use Rattle.sja_driver.specs.Accesses.{Access}
+use Rattle.sja_driver.specs.StepRuns.{StepRun}
 use Rattle.sja_serial.specs.Striking.{struck_run}
 use Rattle.sja_session.specs.declared.strike_fault.StrikeFault.{StrikeFault}
 use Rattle.sja_session.specs.declared.strike_fault.StrikeFault.TheVariants.{NoNode, NoBit, Past, StrikesUsed, Memory}
@@ -38,8 +38,8 @@ struck_session s node bit =
 
 -- the strike was taken, of a bit that hasn't run: nothing else changed, the session stands at the same steps, and the
 -- plan that it wrote has the strike more
-pub record IsStruck (was now : SessionValue) (node bit : ℕ) (accesses : List (List Access)) : Type 0 where
+pub record IsStruck (was now : SessionValue) (node bit : ℕ) (step_runs : List (List StepRun)) : Type 0 where
   pub ahead : was.run.bits ≤ bit
   pub is : now ≡ struck_session was node bit
-  pub at : IsAt now accesses
+  pub at : IsAt now step_runs
   pub wrote : written now ≡ struck_at (written was) node bit

@@ -2,7 +2,7 @@
 use Rattle.std.specs.Prelude.{◌++◌, ℕ, zero, suc, List, [], ◌∷◌, set, slice_index_or}
 use Rattle.sja_plan.specs.declared.turn.Turn.TheVariants.{Bus, Node}
 use Rattle.sja_plan.specs.Plan.{PlanValue}
-use Rattle.sja_script.specs.declared.step.Step.{Step}
+use Rattle.sja_steps.specs.declared.step.Step.{Step}
 use Rattle.sja_session.specs.Turning.{with_turn}
 
 -- to the list of a node one element more

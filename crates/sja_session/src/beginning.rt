@@ -1,9 +1,9 @@
 //! Whether a session may begin, and how its run does.
 
 ghost use Rattle.std.specs.Prelude.{◌≡◌, ◌≢◌, ◌<◌, [], length, map, replicate, OnOk, IfOk, IfErr};
-ghost use Rattle.sja_wire.specs.Buses.{new_bus};
-ghost use Rattle.sja_link.specs.Sizes.{most_activations};
-ghost use Rattle.sja_driver.specs.Accesses.{most_deeds};
+ghost use Rattle.sja_bus_rules.specs.Buses.{new_bus};
+ghost use Rattle.sja_journal.specs.Sizes.{most_activations};
+ghost use Rattle.sja_driver.specs.StepRuns.{most_acts};
 ghost use Rattle.sja_plan.specs.Limits.{most_bits};
 ghost use Rattle.sja_serial.specs.Serial.{CanBeMade, StandsBy, setup_with};
 ghost use Rattle.sja_session.specs.Beginning.{MayBegin, IsRoom, IsSessionFault};
@@ -15,8 +15,8 @@ use super::session_fault::SessionFault;
 use super::session_room::SessionRoom;
 use can_frame::OutOfMemory;
 use sja_plan::{Plan, most_bits, most_steps, most_turns};
-use sja_script::{FaultScript, MOST_NODES};
 use sja_serial::SerialRun;
+use sja_steps::{FaultScript, MOST_NODES};
 use std::alloc::Global;
 
 /// The last version of a session's rules; the first one is 1 (this project's own rule).
@@ -71,7 +71,7 @@ pub(crate) fn run_for(
         (replicate (length rooms.items) [])) }
     ensures bus { IfOk result (λ r. r.bus ≡ new_bus script bits (length rooms.items)
         (most_activations (run_version (record plan.now { bits = bits })))
-        (map (most_deeds (run_version (record plan.now { bits = bits }))) rooms.items)) }
+        (map (most_acts (run_version (record plan.now { bits = bits }))) rooms.items)) }
 {
     plan.limits();
     if bits > u64::from(most_bits(plan.version())) {

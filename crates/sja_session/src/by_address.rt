@@ -1,18 +1,18 @@
 //! Reads and writes of a session by addresses and bytes.
 
 ghost use Rattle.std.specs.Prelude.{◌≡◌};
-ghost use Rattle.sja_driver.specs.Inside.Answered.{value_or};
+ghost use Rattle.sja_driver.specs.Answered.{value_or};
 
 use super::session::Session;
 use super::step_fault::StepFault;
 use super::step_outcome::StepOutcome;
-use sja_driver::KeptBytes;
-use sja_plan::RAW_VERSION;
-use sja_script::{Step, StepAnswer};
+use sja_driver::UnmodelledRegisters;
+use sja_plan::FIRST_BY_BYTES;
+use sja_steps::{Step, StepAnswer};
 
 impl Session {
     ghost use Rattle.std.specs.Prelude.{◌≡◌, List, IfOk, IfErr, OnOk, OnErr};
-    ghost use Rattle.sja_driver.specs.Accesses.{Access};
+    ghost use Rattle.sja_driver.specs.StepRuns.{StepRun};
     ghost use Rattle.sja_session.specs.ByAddress.{Reads, Writes, MayWrite, IsWriteFault};
     ghost use Rattle.sja_session.specs.Sessions.{IsAt};
     ghost use Rattle.sja_session.specs.Stepping.{MayStep, IsStepFault};
@@ -24,8 +24,8 @@ impl Session {
     /// Errors: those of [`step`](Session::step), and nothing changed.
     #[inline(always)]
     pub fn read(&mut self, node: u8, address: u8) -> Result<u8, StepFault>
-        ensures reads { IfOk result (λ value. (accesses : List (List Access)) → IsAt self.old accesses →
-            Reads self.old self.new node address value accesses) }
+        ensures reads { IfOk result (λ value. (step_runs : List (List StepRun)) → IsAt self.old step_runs →
+            Reads self.old self.new node address value step_runs) }
         ensures may { OnOk result (MayStep self.old node) }
         ensures err { IfErr result (IsStepFault self.old node) }
         ensures kept { OnErr result (self.new ≡ self.old) }
@@ -47,15 +47,15 @@ impl Session {
     /// where it is a step, as many turns were taken as there is room for, and the last one isn't of this node.
     #[inline(always)]
     pub fn write(&mut self, node: u8, address: u8, value: u8) -> Result<(), StepFault>
-        ensures writes { OnOk result ((accesses : List (List Access)) → IsAt self.old accesses →
-            Writes self.old self.new node address value accesses) }
-        ensures may { OnOk result ((accesses : List (List Access)) → IsAt self.old accesses →
-            MayWrite self.old node address value accesses) }
-        ensures err { IfErr result (λ fault. (accesses : List (List Access)) → IsAt self.old accesses →
-            IsWriteFault self.old node address value accesses fault) }
+        ensures writes { OnOk result ((step_runs : List (List StepRun)) → IsAt self.old step_runs →
+            Writes self.old self.new node address value step_runs) }
+        ensures may { OnOk result ((step_runs : List (List StepRun)) → IsAt self.old step_runs →
+            MayWrite self.old node address value step_runs) }
+        ensures err { IfErr result (λ fault. (step_runs : List (List StepRun)) → IsAt self.old step_runs →
+            IsWriteFault self.old node address value step_runs fault) }
         ensures kept { OnErr result (self.new ≡ self.old) }
     {
-        if self.plan.version() < RAW_VERSION {
+        if self.plan.version() < FIRST_BY_BYTES {
             return self.write_typed(node, address, value);
         }
         self.write_byte(node, address, value)
@@ -64,7 +64,7 @@ impl Session {
 
 impl Session {
     ghost use Rattle.std.specs.Prelude.{◌≡◌, ◌<◌, true, length, slice_index_or};
-    ghost use Rattle.sja_driver.specs.Accesses.{by_bytes};
+    ghost use Rattle.sja_driver.specs.StepRuns.{by_bytes};
     ghost use Rattle.sja_driver.specs.LoggedDrivers.{kept_of};
     ghost use Rattle.sja_driver.specs.declared.logged_driver.LoggedDriver.{LoggedDriver};
     ghost use Rattle.sja_session.specs.Inside.Accessing.{AnswersWrite, Stands};
@@ -79,13 +79,13 @@ impl Session {
 
     /// The bytes that are kept for the driver of a node, if there is such a node.
     #[inline(always)]
-    fn kept(&self, node: u8) -> KeptBytes
+    fn kept(&self, node: u8) -> UnmodelledRegisters
         ensures { node < length self.now.plan.nodes → (d : LoggedDriver) →
             result ≡ kept_of (slice_index_or self.now.run.drivers node d) }
     {
         let place = usize::from(node);
         if place >= self.plan.nodes() {
-            return KeptBytes::new();
+            return UnmodelledRegisters::new();
         }
         self.run.driver(place).kept()
     }

@@ -6,7 +6,7 @@ use super::session::Session;
 
 impl Session {
     ghost use Rattle.std.specs.Prelude.{◌≡◌, ◌<◌, ◌≤◌, List, length, IfSome, OnSome, IfNone};
-    ghost use Rattle.sja_driver.specs.Accesses.{Access};
+    ghost use Rattle.sja_driver.specs.StepRuns.{StepRun};
     ghost use Rattle.sja_session.specs.Lines.{Looks, AreLines, IsStill, line_at};
     ghost use Rattle.sja_session.specs.Sessions.{IsAt};
 
@@ -16,8 +16,8 @@ impl Session {
     /// It is no step: it clears nothing, no bit is run, and the plan stays as it is. What has come for the driver is
     /// taken in first, as a read does.
     pub fn irq(&mut self, node: u8) -> Option<bool>
-        ensures line { IfSome result (λ line. (accesses : List (List Access)) → IsAt self.old accesses →
-            Looks self.old self.new node line accesses) }
+        ensures line { IfSome result (λ line. (step_runs : List (List StepRun)) → IsAt self.old step_runs →
+            Looks self.old self.new node line step_runs) }
         ensures there { OnSome result (node < length self.old.plan.nodes) }
         ensures none { IfNone result (length self.old.plan.nodes ≤ node) }
         ensures nodes { length self.new.plan.nodes ≡ length self.old.plan.nodes }
@@ -31,9 +31,10 @@ impl Session {
     /// Which interrupt lines are active: bit K is 1 where node K is there and its line is active, as
     /// [`irq`](Session::irq) tells it. It clears nothing, and no more happens than by `irq`.
     pub fn lines(&mut self) -> u8
-        ensures lines { (accesses : List (List Access)) → IsAt self.old accesses →
-            AreLines self.old accesses result }
-        ensures still { (accesses : List (List Access)) → IsAt self.old accesses → IsStill self.old self.new accesses }
+        ensures lines { (step_runs : List (List StepRun)) → IsAt self.old step_runs →
+            AreLines self.old step_runs result }
+        ensures still { (step_runs : List (List StepRun)) → IsAt self.old step_runs →
+            IsStill self.old self.new step_runs }
         ensures nodes { length self.new.plan.nodes ≡ length self.old.plan.nodes }
     {
         let nodes = self.nodes() as u8;
@@ -47,9 +48,10 @@ impl Session {
 
     /// Whether the interrupt line of a node is active; not, where there is no such node.
     fn is_active(&mut self, node: u8) -> bool
-        ensures line { (accesses : List (List Access)) → IsAt self.old accesses → node < length self.old.plan.nodes →
-            result ≡ line_at self.old accesses node }
-        ensures still { (accesses : List (List Access)) → IsAt self.old accesses → IsStill self.old self.new accesses }
+        ensures line { (step_runs : List (List StepRun)) → IsAt self.old step_runs → node < length self.old.plan.nodes →
+            result ≡ line_at self.old step_runs node }
+        ensures still { (step_runs : List (List StepRun)) → IsAt self.old step_runs →
+            IsStill self.old self.new step_runs }
         ensures nodes { length self.new.plan.nodes ≡ length self.old.plan.nodes }
     {
         match self.irq(node) {

@@ -4,8 +4,8 @@ ghost use Rattle.std.specs.Prelude.{◌≡◌, ◌<◌, [], length, map, replica
 ghost use Rattle.sja_session.specs.Writing.{with_more};
 
 use can_frame::OutOfMemory;
-use sja_link::Recent;
-use sja_script::Step;
+use sja_journal::BoundedHistory;
+use sja_steps::Step;
 use std::alloc::Global;
 
 /// Of so many nodes, each an empty list with room for so many.
@@ -15,20 +15,20 @@ pub(crate) fn empty_lists(
     alloc: Global,
     nodes: usize,
     room: u64,
-) -> Result<Vec<Recent<Step>>, OutOfMemory>
+) -> Result<Vec<BoundedHistory<Step>>, OutOfMemory>
     ensures lists { IfOk result (λ lists. map (λ list. list.items) lists.items ≡ replicate nodes []) }
     ensures room { IfOk result (λ lists. map (λ list. list.room) lists.items ≡ replicate nodes room) }
 {
     let mut lists = Vec::with_capacity(alloc, nodes)?;
     for _ in 0..nodes {
-        lists.push_reserved(Recent::new(alloc, room as usize)?);
+        lists.push_reserved(BoundedHistory::new(alloc, room as usize)?);
     }
     Ok(lists)
 }
 
 /// One step more in the list of a node, for which there is room.
 #[inline(always)]
-pub(crate) fn push_step(lists: &mut Vec<Recent<Step>>, node: usize, step: Step)
+pub(crate) fn push_step(lists: &mut Vec<BoundedHistory<Step>>, node: usize, step: Step)
     requires there { node < length lists.old.items }
     requires room { length (slice_index_or (map (λ steps. steps.items) lists.old.items) node [])
         < slice_index_or (map (λ steps. steps.room) lists.old.items) node 0 }

@@ -8,11 +8,11 @@ use sja_plan::Place;
 
 impl Session {
     ghost use Rattle.std.specs.Prelude.{◌≡◌, ◌<◌, ◌≤◌, None, List, IfOk, IfErr, OnOk, OnErr, length};
-    ghost use Rattle.sja_driver.specs.Accesses.{Access};
-    ghost use Rattle.sja_serial.specs.Placing.{IsPlace};
-    ghost use Rattle.sja_session.specs.Placing.{RunsTo, MayRunTo, IsPlaceRefusal};
+    ghost use Rattle.sja_driver.specs.StepRuns.{StepRun};
+    ghost use Rattle.sja_serial.specs.SerialPlaces.{IsPlace};
+    ghost use Rattle.sja_session.specs.SessionPlaces.{RunsTo, MayRunTo, IsPlaceRefusal};
     ghost use Rattle.sja_session.specs.Sessions.{IsAt};
-    ghost use Rattle.sja_wire.specs.Wire.{journal_at};
+    ghost use Rattle.sja_bus_rules.specs.Wire.{journal_at};
 
     /// At which place of a frame the next bit of a node, counted from 0, is: of one that it sends, or of one that it
     /// receives, as far as it has read it. It is that of the cut of its record. None where it's at none of them, or
@@ -39,8 +39,8 @@ impl Session {
         place: Place,
         limit: u32,
     ) -> Result<PlaceOutcome, PlaceRefusal>
-        ensures runs { IfOk result (λ r. (accesses : List (List Access)) → IsAt self.old accesses →
-            RunsTo self.old self.new node place limit r.bits r.there accesses) }
+        ensures runs { IfOk result (λ r. (step_runs : List (List StepRun)) → IsAt self.old step_runs →
+            RunsTo self.old self.new node place limit r.bits r.there step_runs) }
         ensures may { OnOk result (MayRunTo self.old node limit) }
         ensures err { IfErr result (IsPlaceRefusal self.old node limit) }
         ensures kept { OnErr result (self.new ≡ self.old) }

@@ -1,14 +1,14 @@
 //! The plan that a session wrote, as far as it has come.
 
 ghost use Rattle.std.specs.Prelude.{◌≡◌, All, map, IfOk};
-ghost use Rattle.sja_link.specs.Recents.{KeepsAll};
+ghost use Rattle.sja_journal.specs.BoundedHistories.{KeepsAll};
 
 use super::no_plan::NoPlan;
 use super::session::Session;
 use can_frame::OutOfMemory;
-use sja_link::Recent;
+use sja_journal::BoundedHistory;
 use sja_plan::{Plan, Turn};
-use sja_script::{Step, Strike};
+use sja_steps::{Step, Strike};
 use std::alloc::Global;
 
 impl Session {
@@ -39,7 +39,10 @@ impl Session {
 /// The same steps of each node.
 ///
 /// Error: [`OutOfMemory`] where memory was refused.
-fn copied_steps(alloc: Global, nodes: &[Recent<Step>]) -> Result<Vec<Vec<Step>>, OutOfMemory>
+fn copied_steps(
+    alloc: Global,
+    nodes: &[BoundedHistory<Step>],
+) -> Result<Vec<Vec<Step>>, OutOfMemory>
     requires { All (λ steps. KeepsAll steps.room) nodes.now }
     ensures { IfOk result (λ copy. map (λ steps. steps.items) copy.items
         ≡ map (λ steps. steps.items) nodes.now) }

@@ -4,12 +4,12 @@ use super::rest_outcome::RestOutcome;
 use super::session::Session;
 use super::turns::note_bits;
 use super::turns_used::TurnsUsed;
-use sja_plan::MOST_RAW_BITS;
+use sja_plan::MOST_BITS_BY_BYTES;
 
 impl Session {
     ghost use Rattle.std.specs.Prelude.{◌≡◌, List, IfOk, OnOk, OnErr};
-    ghost use Rattle.sja_driver.specs.Accesses.{Access};
-    ghost use Rattle.sja_session.specs.Resting.{Rests};
+    ghost use Rattle.sja_driver.specs.StepRuns.{StepRun};
+    ghost use Rattle.sja_session.specs.SessionRest.{Rests};
     ghost use Rattle.sja_session.specs.Running.{MayRun, LacksBusTurn};
     ghost use Rattle.sja_session.specs.Sessions.{IsAt};
 
@@ -20,8 +20,8 @@ impl Session {
     /// Error: [`TurnsUsed`] where as many turns were taken as there is room for, the last one isn't of the bus, and a
     /// bit is left. Nothing changed.
     pub fn rest(&mut self) -> Result<RestOutcome, TurnsUsed>
-        ensures rests { IfOk result (λ r. (accesses : List (List Access)) → IsAt self.old accesses →
-            Rests self.old self.new r.bits r.at_rest accesses) }
+        ensures rests { IfOk result (λ r. (step_runs : List (List StepRun)) → IsAt self.old step_runs →
+            Rests self.old self.new r.bits r.at_rest step_runs) }
         ensures may { OnOk result (MayRun self.old 1) }
         ensures err { OnErr result (LacksBusTurn self.old 1) }
         ensures kept { OnErr result (self.new ≡ self.old) }
@@ -30,7 +30,7 @@ impl Session {
             return Err(TurnsUsed);
         }
         let (before, noted) = (self.run.bits(), !self.is_endless());
-        let at_rest = self.run.rest_turn(MOST_RAW_BITS);
+        let at_rest = self.run.rest_turn(MOST_BITS_BY_BYTES);
         let bits = (self.run.bits() - before) as u32;
         note_bits(&mut self.turns, noted, bits);
         Ok(RestOutcome { bits, at_rest })

@@ -7,7 +7,7 @@ use sja_plan::Turn;
 
 impl Session {
     ghost use Rattle.std.specs.Prelude.{◌≡◌, List, IfOk, OnOk, OnErr};
-    ghost use Rattle.sja_driver.specs.Accesses.{Access};
+    ghost use Rattle.sja_driver.specs.StepRuns.{StepRun};
     ghost use Rattle.sja_session.specs.Running.{RunsBits, MayRun, LacksBusTurn};
     ghost use Rattle.sja_session.specs.Sessions.{IsAt};
 
@@ -16,8 +16,8 @@ impl Session {
     /// Error: [`TurnsUsed`] where as many turns were taken as there is room for, the last one isn't of the bus, and a
     /// bit is to be run: some are asked for, and some are left. Nothing changed.
     pub fn bits(&mut self, count: u32) -> Result<u32, TurnsUsed>
-        ensures bits { IfOk result (λ run. (accesses : List (List Access)) → IsAt self.old accesses →
-            RunsBits self.old self.new count run accesses) }
+        ensures bits { IfOk result (λ run. (step_runs : List (List StepRun)) → IsAt self.old step_runs →
+            RunsBits self.old self.new count run step_runs) }
         ensures may { OnOk result (MayRun self.old count) }
         ensures err { OnErr result (LacksBusTurn self.old count) }
         ensures kept { OnErr result (self.new ≡ self.old) }

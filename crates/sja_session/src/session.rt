@@ -7,10 +7,10 @@ use super::plan_so_far::copied_strikes;
 use super::session_fault::SessionFault;
 use super::session_room::SessionRoom;
 use can_frame::OutOfMemory;
-use sja_link::Recent;
-use sja_plan::{Plan, RAW_VERSION, Turn, most_bits};
-use sja_script::{FaultScript, MOST_NODES, Step, Strike};
+use sja_journal::BoundedHistory;
+use sja_plan::{FIRST_BY_BYTES, Plan, Turn, most_bits};
 use sja_serial::SerialRun;
+use sja_steps::{FaultScript, MOST_NODES, Step, Strike};
 use std::alloc::Global;
 use std::marker::Model;
 
@@ -33,8 +33,8 @@ pub struct Session {
     pub(crate) plan: Plan,
     pub(crate) bits: u64,
     /// The strikes of a session without an end.
-    pub(crate) struck: Recent<Strike>,
-    pub(crate) steps: Vec<Recent<Step>>,
+    pub(crate) struck: BoundedHistory<Strike>,
+    pub(crate) steps: Vec<BoundedHistory<Step>>,
     pub(crate) room: SessionRoom,
     pub(crate) turns: Vec<Turn>,
 }
@@ -57,9 +57,9 @@ impl Model for Session {
 
 impl Session {
     ghost use Rattle.std.specs.Prelude.{◌≡◌, ◌<◌, ◌≤◌, [], replicate, true, false, IfOk, IfErr, OnOk, length};
-    ghost use Rattle.sja_wire.specs.Buses.{new_bus};
-    ghost use Rattle.sja_link.specs.Sizes.{most_activations};
-    ghost use Rattle.sja_driver.specs.Accesses.{most_deeds};
+    ghost use Rattle.sja_bus_rules.specs.Buses.{new_bus};
+    ghost use Rattle.sja_journal.specs.Sizes.{most_activations};
+    ghost use Rattle.sja_driver.specs.StepRuns.{most_acts};
     ghost use Rattle.sja_plan.specs.Growing.{plan_of};
     ghost use Rattle.sja_plan.specs.Limits.{most_steps};
     ghost use Rattle.sja_plan.specs.Plan.{IsInLimits};
@@ -131,7 +131,7 @@ impl Session {
         if nodes < 1 || nodes > MOST_NODES {
             return Err(SessionFault::NodeCount);
         }
-        let plan = Plan::blank(alloc, RAW_VERSION, 1, nodes, 0)?;
+        let plan = Plan::blank(alloc, FIRST_BY_BYTES, 1, nodes, 0)?;
         Ok(Session::over(alloc, plan, ENDLESS_BITS, SessionRoom::endless())?)
     }
 
@@ -149,7 +149,7 @@ impl Session {
         ensures at { IfOk result (λ s. IsAt s (replicate (length plan.nodes) [])) }
         ensures bus { IfOk result (λ s. s.run.bus ≡ new_bus plan.strikes bits (length plan.nodes)
             (most_activations (run_version (record plan { bits = bits })))
-            (replicate (length plan.nodes) (most_deeds plan.version room.steps))) }
+            (replicate (length plan.nodes) (most_acts plan.version room.steps))) }
         ensures plan { IfOk result (λ s. written s ≡ record plan { bits = bits }) }
         ensures room { IfOk result (λ s. s.room ≡ room) }
     {
@@ -160,7 +160,7 @@ impl Session {
         let run = run_for(alloc, &plan, bits, rooms, script)?;
         let steps = empty_lists(alloc, nodes, room.steps)?;
         let turns = Vec::with_capacity(alloc, room.turns as usize + 1)?;
-        let struck = Recent::new(alloc, strikes_for(&plan, bits))?;
+        let struck = BoundedHistory::new(alloc, strikes_for(&plan, bits))?;
         Ok(Session {
             run,
             plan,

@@ -1,6 +1,6 @@
 //! What comes of a step.
 
-use sja_script::StepAnswer;
+use sja_steps::StepAnswer;
 
 /// What comes of a step that was tried (this project's own rule).
 #[derive(Debug, PartialEq, Eq, Drop)]

@@ -7,12 +7,12 @@ use super::step_fault::StepFault;
 use super::step_outcome::StepOutcome;
 use super::turns::{goes_on_last, note};
 use sja_plan::Turn;
-use sja_script::Step;
+use sja_steps::Step;
 
 impl Session {
     ghost use Rattle.std.specs.Prelude.{◌≡◌, List, Ok, IfErr, OnOk, OnErr};
-    ghost use Rattle.sja_driver.specs.Accesses.{Access};
-    ghost use Rattle.sja_script.specs.declared.step_answer.StepAnswer.{StepAnswer as AnswerOfStep};
+    ghost use Rattle.sja_driver.specs.StepRuns.{StepRun};
+    ghost use Rattle.sja_steps.specs.declared.step_answer.StepAnswer.{StepAnswer as AnswerOfStep};
     ghost use Rattle.sja_session.specs.declared.step_outcome.StepOutcome.TheVariants.{Answer, Waits as HasToWait};
     ghost use Rattle.sja_session.specs.Sessions.{IsAt};
     ghost use Rattle.sja_session.specs.Stepping.{MayStep, IsStepFault, DoesStep, Waits};
@@ -25,10 +25,10 @@ impl Session {
     /// as many turns were taken as there is room for, and the last one isn't of this node.
     #[inline(always)]
     pub fn step(&mut self, node: u8, step: Step) -> Result<StepOutcome, StepFault>
-        ensures done { (answer : AnswerOfStep) → result ≡ Ok (Answer answer) → (accesses : List (List Access)) →
-            IsAt self.old accesses → DoesStep self.old self.new node step answer accesses }
-        ensures waits { result ≡ Ok HasToWait → (accesses : List (List Access)) → IsAt self.old accesses →
-            Waits self.old self.new node step accesses }
+        ensures done { (answer : AnswerOfStep) → result ≡ Ok (Answer answer) → (step_runs : List (List StepRun)) →
+            IsAt self.old step_runs → DoesStep self.old self.new node step answer step_runs }
+        ensures waits { result ≡ Ok HasToWait → (step_runs : List (List StepRun)) → IsAt self.old step_runs →
+            Waits self.old self.new node step step_runs }
         ensures may { OnOk result (MayStep self.old node) }
         ensures err { IfErr result (IsStepFault self.old node) }
         ensures kept { OnErr result (self.new ≡ self.old) }

@@ -5,12 +5,12 @@ ghost use Rattle.sja_plan.specs.Struck.{one_strike};
 
 use super::session::Session;
 use super::strike_fault::StrikeFault;
-use sja_plan::PlanFault;
-use sja_script::Strike;
+use sja_plan::StrikeRefusal;
+use sja_steps::Strike;
 
 impl Session {
     ghost use Rattle.std.specs.Prelude.{◌≡◌, ◌<◌, ◌≤◌, List, length, IfErr, OnOk, OnErr};
-    ghost use Rattle.sja_driver.specs.Accesses.{Access};
+    ghost use Rattle.sja_driver.specs.StepRuns.{StepRun};
     ghost use Rattle.sja_session.specs.Sessions.{IsAt, IsEndless};
     ghost use Rattle.sja_session.specs.declared.strike_fault.StrikeFault.TheVariants.{Memory};
     ghost use Rattle.sja_session.specs.Striking.{MayStrike, IsStrikeFault, IsStruck};
@@ -25,8 +25,8 @@ impl Session {
     /// of its version may; [`StrikeFault::Memory`] where memory was refused.
     #[inline(always)]
     pub fn strike(&mut self, node: u8, bit: u64) -> Result<(), StrikeFault>
-        ensures struck { OnOk result ((accesses : List (List Access)) → IsAt self.old accesses →
-            IsStruck self.old self.new node bit accesses) }
+        ensures struck { OnOk result ((step_runs : List (List StepRun)) → IsAt self.old step_runs →
+            IsStruck self.old self.new node bit step_runs) }
         ensures may { OnOk result (MayStrike self.old node bit) }
         ensures err { IfErr result (IsStrikeFault self.old node bit) }
         ensures kept { OnErr result (self.new ≡ self.old) }
@@ -37,7 +37,7 @@ impl Session {
         }
         match self.plan.strike(node, bit) {
             Ok(()) => {}
-            Err(PlanFault::StrikeCount) => return Err(StrikeFault::StrikesUsed),
+            Err(StrikeRefusal::StrikeCount) => return Err(StrikeFault::StrikesUsed),
             Err(_) => return Err(StrikeFault::Memory),
         }
         match self.run.strike(one_strike(node, bit)) {
@@ -53,8 +53,8 @@ impl Session {
     fn strike_endless(&mut self, node: u8, bit: u64) -> Result<(), StrikeFault>
         requires endless { IsEndless self.old }
         requires ahead { self.old.run.bits ≤ bit }
-        ensures struck { OnOk result ((accesses : List (List Access)) → IsAt self.old accesses →
-            IsStruck self.old self.new node bit accesses) }
+        ensures struck { OnOk result ((step_runs : List (List StepRun)) → IsAt self.old step_runs →
+            IsStruck self.old self.new node bit step_runs) }
         ensures err { IfErr result (λ fault. fault ≡ Memory) }
         ensures kept { OnErr result (self.new ≡ self.old) }
     {

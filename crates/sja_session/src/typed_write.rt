@@ -8,11 +8,11 @@ use super::step_fault::StepFault;
 use super::step_outcome::StepOutcome;
 use sja_driver::{WriteSteps, steps_of_write};
 use sja_plan::Turn;
-use sja_script::{Step, StepAnswer};
+use sja_steps::{Step, StepAnswer};
 
 impl Session {
     ghost use Rattle.std.specs.Prelude.{◌≡◌, ◌≤◌, false, List, ◌∷◌, [], length, IfErr, OnOk};
-    ghost use Rattle.sja_driver.specs.Accesses.{Access, by_bytes};
+    ghost use Rattle.sja_driver.specs.StepRuns.{StepRun, by_bytes};
     ghost use Rattle.sja_driver.specs.WriteLists.{IsPrompt, IsPromptIf, listed};
     ghost use Rattle.sja_session.specs.ByAddress.{IsAccessFault, MayDo};
     ghost use Rattle.sja_session.specs.Inside.Accessing.{AnswersWrite, Does, Stands};
@@ -70,8 +70,8 @@ impl Session {
         requires stands { Stands self.old }
         requires may { MayDo self.old node (length (listed step)) }
         requires prompt { IsPromptIf step }
-        ensures { (accesses : List (List Access)) → IsAt self.old accesses →
-            Does self.old self.new node (listed step) accesses }
+        ensures { (step_runs : List (List StepRun)) → IsAt self.old step_runs →
+            Does self.old self.new node (listed step) step_runs }
     {
         if let Some(step) = step {
             self.do_one(node, step);
@@ -83,8 +83,8 @@ impl Session {
         requires stands { Stands self.old }
         requires may { MayStep self.old node }
         requires prompt { IsPrompt step }
-        ensures { (accesses : List (List Access)) → IsAt self.old accesses →
-            DoesStep self.old self.new node step result accesses }
+        ensures { (step_runs : List (List StepRun)) → IsAt self.old step_runs →
+            DoesStep self.old self.new node step result step_runs }
     {
         match self.step(node, step) {
             Ok(StepOutcome::Answer(answer)) => answer,
@@ -98,8 +98,8 @@ impl Session {
         requires stands { Stands self.old }
         requires may { MayDo self.old node 1 }
         requires prompt { IsPrompt step }
-        ensures { (accesses : List (List Access)) → IsAt self.old accesses →
-            Does self.old self.new node (step ∷ []) accesses }
+        ensures { (step_runs : List (List StepRun)) → IsAt self.old step_runs →
+            Does self.old self.new node (step ∷ []) step_runs }
     {
         let _ = self.do_prompt(node, step);
     }

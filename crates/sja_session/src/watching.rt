@@ -11,7 +11,7 @@ use sja_plan::Turn;
 
 impl Session {
     ghost use Rattle.std.specs.Prelude.{◌≡◌, ◌≤◌, ◌<◌, ℕ, true, false, List, length, slice_index_or, IfOk, OnOk, OnErr};
-    ghost use Rattle.sja_driver.specs.Accesses.{Access};
+    ghost use Rattle.sja_driver.specs.StepRuns.{StepRun};
     ghost use Rattle.sja_session.specs.Lines.{IsStill, line_at};
     ghost use Rattle.sja_session.specs.Running.{MayRun, LacksBusTurn};
     ghost use Rattle.sja_session.specs.Sessions.{IsAt};
@@ -24,8 +24,8 @@ impl Session {
     ///
     /// Error: that of [`bits`](Session::bits). Nothing changed.
     pub fn watch(&mut self, count: u32, watched: [bool; 8]) -> Result<WatchOutcome, TurnsUsed>
-        ensures watches { IfOk result (λ w. (accesses : List (List Access)) → IsAt self.old accesses →
-            Watches self.old self.new count watched w.bits w.rose accesses) }
+        ensures watches { IfOk result (λ w. (step_runs : List (List StepRun)) → IsAt self.old step_runs →
+            Watches self.old self.new count watched w.bits w.rose step_runs) }
         ensures may { OnOk result (MayRun self.old count) }
         ensures err { OnErr result (LacksBusTurn self.old count) }
         ensures kept { OnErr result (self.new ≡ self.old) }
@@ -57,8 +57,8 @@ impl Session {
         requires some { 1 ≤ count }
         requires left { self.old.run.bits < self.old.plan.bits }
         ensures most { result ≤ count }
-        ensures ran { (accesses : List (List Access)) → IsAt self.old accesses →
-            RunsUntilTold self.old self.new result accesses }
+        ensures ran { (step_runs : List (List StepRun)) → IsAt self.old step_runs →
+            RunsUntilTold self.old self.new result step_runs }
         ensures may { MayRun self.new 1 }
     {
         let noted = !self.is_endless();
@@ -70,10 +70,11 @@ impl Session {
     /// Which interrupt lines of watched nodes are active, a place for each node that there may be. Of the nodes that
     /// are there each that is watched is looked at.
     fn looks(&mut self, watched: &[bool; 8]) -> [bool; 8]
-        ensures still { (accesses : List (List Access)) → IsAt self.old accesses → IsStill self.old self.new accesses }
-        ensures lines { (accesses : List (List Access)) → IsAt self.old accesses → (k : ℕ) →
+        ensures still { (step_runs : List (List StepRun)) → IsAt self.old step_runs →
+            IsStill self.old self.new step_runs }
+        ensures lines { (step_runs : List (List StepRun)) → IsAt self.old step_runs → (k : ℕ) →
             k < length self.old.plan.nodes → k < 8 → slice_index_or watched.now k false ≡ true →
-            slice_index_or result k false ≡ line_at self.old accesses k }
+            slice_index_or result k false ≡ line_at self.old step_runs k }
         ensures none { (k : ℕ) → length self.old.plan.nodes ≤ k → slice_index_or result k false ≡ false }
     {
         let mut lines = [false; 8];

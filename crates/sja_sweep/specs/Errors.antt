@@ -3,21 +3,21 @@
 use Rattle.std.specs.Prelude.{◌≡◌, Option, List, [], map}
 use Rattle.std.specs.List.{AllZip}
 use Rattle.std.specs.Option.{option_map}
-use Rattle.can_node.specs.declared.cause.Cause.{Cause}
-use Rattle.sja_link.specs.declared.entry.Entry.{Entry}
+use Rattle.can_node_rules.specs.declared.cause.Cause.{Cause}
+use Rattle.sja_journal.specs.declared.entry.Entry.{Entry}
 use Rattle.sja_log.specs.Log.{NodeValue, RunValue}
-use Rattle.sja_log.specs.Runs.{IsSerialRun}
+use Rattle.sja_promises.specs.Runs.{IsSerialRun}
 use Rattle.sja_plan.specs.Plan.{PlanValue}
-use Rattle.sja_replay.specs.declared.happening.Happening.{Happening}
+use Rattle.sja_replay.specs.declared.bit_event.BitEvent.{BitEvent}
 use Rattle.sja_replay.specs.Happened.{Happened}
 
 -- the kind of error that the node found in a bit, if it found one
-abbrev pub error_in : Happening → Option Cause
+abbrev pub error_in : BitEvent → Option Cause
 error_in h = option_map (λ fault. fault.0) h.events.fault
 
 -- the bits of a journal brought these errors, one after another: by the cut of the journal's record
 pub record HasErrors (journal : List Entry) (errors : List (Option Cause)) : Type 0 where
-  pub told : List Happening
+  pub told : List BitEvent
   pub happened : Happened [] journal told
   pub are : errors ≡ map error_in told
 

@@ -3,7 +3,7 @@ use Rattle.std.specs.Prelude.{ℕ, Bool, true, false, nat_lt, if◌then◌else�
 use Rattle.std.specs.Prelude.{map, fold, find, slice_index_or}
 use Rattle.std.specs.List.{range_with_len}
 use Rattle.std.specs.Option.{option_map}
-use Rattle.can_node.specs.declared.cause.Cause.{Cause}
+use Rattle.can_node_rules.specs.declared.cause.Cause.{Cause}
 use Rattle.sja_sweep.specs.declared.first_error.FirstError.{FirstError}
 
 -- the error of a bit, counted from 0; past the end there is none

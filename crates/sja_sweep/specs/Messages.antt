@@ -4,8 +4,8 @@ use Rattle.std.specs.Prelude.{List, [], ◌++◌, length, take, codes, slice_ind
 use Rattle.std.specs.List.{list_any, range_with_len}
 use Rattle.std.specs.Str.{bytes_eq}
 use Rattle.lemmas.specs.Gathering.{gathered}
-use Rattle.sja_report.specs.ReportWords.{message_words}
-use Rattle.sja_report.specs.Spacing.{all_spaced}
+use Rattle.text_report.specs.ReportWords.{message_words}
+use Rattle.text_report.specs.Spacing.{all_spaced}
 
 -- the message at a place, counted from 0; no bytes past the end
 abbrev pub message_at : List (List ℕ) → ℕ → List ℕ

@@ -3,8 +3,8 @@ use Rattle.std.specs.Prelude.{◌+◌, ◌==◌, ◌&&◌, ℕ, Bool, true, fals
 use Rattle.std.specs.Prelude.{List, [], ◌∷◌, ◌++◌, length, codes, decimal}
 use Rattle.std.specs.List.{range_with_len}
 use Rattle.std.specs.Str.{bytes_eq}
-use Rattle.can_node.specs.declared.cause.Cause.{Cause}
-use Rattle.can_node.specs.declared.cause.Cause.TheVariants.{Bit, Stuff, Form, Crc, Ack}
+use Rattle.can_node_rules.specs.declared.cause.Cause.{Cause}
+use Rattle.can_node_rules.specs.declared.cause.Cause.TheVariants.{Bit, Stuff, Form, Crc, Ack}
 use Rattle.lemmas.specs.Gathering.{gathered, total}
 use Rattle.sja_log.specs.Log.{ActivationValue, NodeValue, RunValue}
 use Rattle.sja_log.specs.EndWord.{end_word}

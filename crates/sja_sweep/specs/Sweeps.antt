@@ -4,7 +4,7 @@ use Rattle.std.specs.List.{AllZip}
 use Rattle.sja_plan.specs.Limits.{most_strikes}
 use Rattle.sja_plan.specs.Plan.{PlanValue, times_in}
 use Rattle.sja_log.specs.Log.{RunValue}
-use Rattle.sja_log.specs.Runs.{IsSerialRun}
+use Rattle.sja_promises.specs.Runs.{IsSerialRun}
 use Rattle.sja_log.specs.declared.run_fault.RunFault.TheVariants.{Memory as NoMemory}
 use Rattle.sja_sweep.specs.declared.sweeping.Sweeping.{Sweeping}
 use Rattle.sja_sweep.specs.declared.trial.Trial.{Trial}

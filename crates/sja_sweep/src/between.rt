@@ -1,11 +1,11 @@
 //! [`Between`]: what a journal says between its bits.
 
 ghost use Rattle.std.specs.Prelude.{◌≡◌, IfOk};
-ghost use Rattle.sja_link.specs.Carried.{overrun_of};
+ghost use Rattle.sja_journal.specs.Carried.{overrun_of};
 ghost use Rattle.sja_sweep.specs.Changes.{times_off};
 
 use can_frame::Message;
-use sja_link::{Entry, Journal};
+use sja_journal::{Entry, Journal};
 use std::alloc::{AllocError, Global};
 
 /// What a journal says between its bits.

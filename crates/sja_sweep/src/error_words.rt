@@ -4,7 +4,7 @@ ghost use Rattle.std.specs.Prelude.{◌≡◌, ◌++◌, string_bytes, OnOk};
 ghost use Rattle.sja_sweep.specs.SweepText.{cause_word, error_words, errors_words, place_words, same_error};
 
 use super::first_error::FirstError;
-use can_node::Cause;
+use can_node_rules::Cause;
 use std::alloc::AllocError;
 use std::fmt::Write;
 

@@ -3,7 +3,7 @@
 ghost use Rattle.std.specs.Prelude.{◌≡◌, length, map};
 ghost use Rattle.sja_sweep.specs.FirstErrors.{error_at, is_new, first_bit, error_by, earlier, first_error};
 
-use can_node::Cause;
+use can_node_rules::Cause;
 
 /// An error that a node found (Bosch CAN 2.0 part A, section 6.1).
 #[derive(Clone, Copy)]

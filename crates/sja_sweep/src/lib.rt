@@ -40,7 +40,7 @@ mod trial_outcome;
 mod trial_run;
 mod trials;
 mod whole_sweep;
-mod written;
+mod write_texts;
 
 pub use kinds::Kinds;
 pub use limits::{MOST_RUNS, MOST_SWEPT_BITS};

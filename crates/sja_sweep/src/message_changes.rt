@@ -6,8 +6,8 @@ ghost use Rattle.sja_sweep.specs.Messages.{list_items};
 
 use super::messages::{is_more, is_reordered};
 use can_frame::Message;
-use sja_report::put_bytes;
 use std::alloc::{AllocError, Global};
+use text_report::put_bytes;
 
 /// All that is said of the two lists: what they are of, and which messages are more, less, or in another order.
 pub(crate) fn put_list(

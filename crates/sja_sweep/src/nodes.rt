@@ -2,7 +2,7 @@
 
 ghost use Rattle.std.specs.Prelude.{◌≡◌, ◌++◌, length, codes, decimal, string_bytes, OnOk, IfOk};
 ghost use Rattle.std.specs.Option.{option_copied};
-ghost use Rattle.sja_link.specs.Carried.{overrun_of};
+ghost use Rattle.sja_journal.specs.Carried.{overrun_of};
 ghost use Rattle.sja_sweep.specs.Nodes.{node_at};
 ghost use Rattle.sja_sweep.specs.Steps.{script_at};
 ghost use Rattle.sja_sweep.specs.Messages.{list_items};
@@ -16,7 +16,7 @@ use super::message_changes::put_list;
 use super::steps::put_steps;
 use sja_log::{End, NodeRun, RunLog};
 use sja_plan::Plan;
-use sja_script::Step;
+use sja_steps::Step;
 use std::alloc::{AllocError, Global};
 use std::fmt::Write;
 

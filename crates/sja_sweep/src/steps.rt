@@ -5,10 +5,10 @@ ghost use Rattle.std.specs.Option.{option_copied};
 ghost use Rattle.std.specs.Str.{bytes_eq};
 ghost use Rattle.sja_sweep.specs.Steps.{step_words, answer_text, reads_ecc, step_item, step_items};
 
-use sja_report::put_answer;
-use sja_script::{Done, Step};
+use sja_steps::{Step, StepRecord};
 use std::alloc::{AllocError, Global};
 use std::fmt::Write;
+use text_report::put_answer;
 
 /// The address of ECC.
 const ECC: u8 = 12;
@@ -20,8 +20,8 @@ pub(crate) fn put_steps(
     text: &mut String,
     script: &[Step],
     node: usize,
-    without: &[Done],
-    now: &[Done],
+    without: &[StepRecord],
+    now: &[StepRecord],
 ) -> Result<(), AllocError>
     ensures { OnOk result (string_bytes text.new ≡ string_bytes text.old
         ++ step_items script.now node without.now now.now) }
@@ -35,7 +35,7 @@ pub(crate) fn put_steps(
 }
 
 /// The step done at a place; none past the end.
-fn done_at(done: &[Done], place: usize) -> Option<&Done>
+fn done_at(done: &[StepRecord], place: usize) -> Option<&StepRecord>
     ensures { option_copied result ≡ slice_get done.now place }
 {
     done.get(place)
@@ -55,8 +55,8 @@ fn put_step(
     out: Option<&Step>,
     node: usize,
     place: usize,
-    without: Option<&Done>,
-    now: Option<&Done>,
+    without: Option<&StepRecord>,
+    now: Option<&StepRecord>,
 ) -> Result<(), AllocError>
     ensures { OnOk result (string_bytes text.new ≡ string_bytes text.old
         ++ step_item (option_copied out.entry) node place (option_copied without.entry) (option_copied now.entry)) }
@@ -88,7 +88,12 @@ fn reads_ecc(step: Option<&Step>) -> bool
 }
 
 /// A step with its answer.
-fn put_answered(text: &mut String, node: usize, place: usize, done: &Done) -> Result<(), AllocError>
+fn put_answered(
+    text: &mut String,
+    node: usize,
+    place: usize,
+    done: &StepRecord,
+) -> Result<(), AllocError>
     ensures { OnOk result (string_bytes text.new ≡ string_bytes text.old
         ++ (step_words node place ++ answer_text done.now)) }
 {
@@ -105,7 +110,7 @@ fn put_step_words(text: &mut String, node: usize, place: usize) -> Result<(), Al
 }
 
 /// Whether two steps answer the same words.
-fn same_answer(alloc: Global, first: &Done, second: &Done) -> Result<bool, AllocError>
+fn same_answer(alloc: Global, first: &StepRecord, second: &StepRecord) -> Result<bool, AllocError>
     ensures { IfOk result (λ same. same ≡ bytes_eq (answer_text first.now) (answer_text second.now)) }
 {
     let mut one = String::new(alloc);

@@ -6,11 +6,11 @@ ghost use Rattle.sja_sweep.specs.Errors.{error_in, HasErrors, IsRan};
 ghost use Rattle.sja_sweep.specs.Inside.Reaching.{trial_run_value, HaveErrors, IsTrialFault};
 
 use super::sweep_fault::SweepFault;
-use can_node::Cause;
-use sja_link::Journal;
+use can_node_rules::Cause;
+use sja_journal::Journal;
 use sja_log::{NodeRun, RunLog};
 use sja_plan::Plan;
-use sja_replay::{Happening, Replay};
+use sja_replay::{BitEvent, Replay};
 use sja_serial::run_serial;
 use std::alloc::{AllocError, Global};
 
@@ -50,16 +50,16 @@ fn errors_of(alloc: Global, journal: &Journal) -> Result<Vec<Option<Cause>>, All
 {
     let mut errors = Vec::new(alloc);
     let mut replay = Replay::of(journal);
-    while let Some(happening) = replay.next() {
-        errors.push(error_in(&happening))?;
+    while let Some(bit_event) = replay.next() {
+        errors.push(error_in(&bit_event))?;
     }
     Ok(errors)
 }
 
 /// The kind of error that was found in a bit.
-fn error_in(happening: &Happening) -> Option<Cause>
-    ensures { result ≡ error_in happening.now }
+fn error_in(bit_event: &BitEvent) -> Option<Cause>
+    ensures { result ≡ error_in bit_event.now }
 {
-    let (cause, _) = happening.events.fault?;
+    let (cause, _) = bit_event.events.fault?;
     Some(cause)
 }

@@ -13,7 +13,7 @@ use super::sweep_start::{SweepStart, begin};
 use super::sweep_texts::SweepTexts;
 use super::sweeping::Sweeping;
 use super::trial_outcome::TrialOutcome;
-use super::written::written;
+use super::write_texts::write_texts;
 use sja_plan::Plan;
 use std::alloc::{AllocError, Global};
 use std::thread::Threads;
@@ -79,5 +79,5 @@ fn texts(
         → AreTried plan (trial_run_value begun.now.planned) begun.now.trials.items (map outcome_value tolds.now)
         → IfOk result (λ swept. IsSweep plan sweeping.now (string_bytes swept.text) (string_bytes swept.rows)) }
 {
-    written(alloc, sweeping.asked, &begun.planned.log, tolds)
+    write_texts(alloc, sweeping.asked, &begun.planned.log, tolds)
 }

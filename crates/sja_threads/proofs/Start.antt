@@ -2,5 +2,5 @@ pub mod NewEnds
 pub mod Making
 pub mod Threads
 pub mod Begins
-pub mod FewDeeds
+pub mod FewActs
 pub mod Goes

@@ -4,6 +4,6 @@ pub mod Going
 pub mod Led
 pub mod Aborts
 pub mod Named
-pub mod Deeds
+pub mod TypedActs
 pub mod Boards
 pub mod InOrder

@@ -6,7 +6,7 @@ pub mod Ordered
 pub mod Boards
 -- ---- a driver in its thread
 pub mod Steps
-pub mod Accesses
+pub mod StepRuns
 -- ---- the beginning of a run
 pub mod Making
 pub mod Started

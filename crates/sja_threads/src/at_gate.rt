@@ -4,9 +4,9 @@ use super::gate::Gate;
 use super::lobby::Lobby;
 use super::locked_port::LockedPort;
 use super::order::Order;
-use super::pass::Pass;
 use super::waits::{SHORT, wait_a_while};
-use sja_script::StepAnswer;
+use sja_steps::StepAnswer;
+use sja_thread_promises::Pass;
 use std::sync::{Mutex, Wait};
 use std::thread::Parker;
 
@@ -24,8 +24,8 @@ pub(crate) struct AtGate<'a, N: Order, R, G: Drop> {
 
 impl<'a, N: Order, R: Wait, G: Gate> AtGate<'a, N, R, G> {
     ghost use Rattle.std.specs.Prelude.{◌≡◌, true, false, None, IfSome};
-    ghost use Rattle.sja_threads.specs.Asking.{HasAnswered, IsNextNumber, pass_if, pass_of};
-    ghost use Rattle.sja_threads.specs.Inside.Accesses.{EndsWait};
+    ghost use Rattle.sja_thread_promises.specs.Asking.{HasAnswered, IsNextNumber, pass_if, pass_of};
+    ghost use Rattle.sja_threads.specs.Inside.StepRuns.{EndsWait};
 
     /// Where a thread tries steps at this port, as this gate lets it.
     pub(crate) fn new(

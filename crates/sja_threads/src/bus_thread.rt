@@ -2,7 +2,7 @@
 
 ghost use Rattle.std.specs.Prelude.{◌≡◌, ◌≤◌, ◌<◌, ◌⊎◌, true, false, length, None};
 ghost use Rattle.sja_threads.specs.Inside.Boards.{AllBegun, turns_in};
-ghost use Rattle.sja_threads.specs.Needed.{most_awaited};
+ghost use Rattle.sja_thread_promises.specs.Needed.{most_awaited};
 
 use super::last_awaited::{last_awaited, most_awaited};
 use super::lobby::Lobby;
@@ -14,7 +14,7 @@ use sja_bus::{Bus, BusFault};
 use sja_log::End;
 use sja_plan::Plan;
 use sja_rings::NodeBus;
-use sja_script::Step;
+use sja_steps::Step;
 use std::sync::{Mutex, Wait};
 use std::thread::Parker;
 
@@ -30,15 +30,15 @@ pub(crate) struct BusThread {
 
 impl BusThread {
     ghost use Rattle.std.specs.Prelude.{◌≡◌, ◌≢◌, ◌≤◌, ◌+◌, true, List, length, Ok, IfOk, IfErr, OnOk};
-    ghost use Rattle.sja_link.specs.Links.{AreEnds, HaveLinks};
+    ghost use Rattle.sja_journal.specs.Links.{AreEnds, HaveLinks};
     ghost use Rattle.sja_plan.specs.Plan.{PlanValue};
     ghost use Rattle.sja_rings.specs.NodeRings.{links_of_bus, node_of_bus, ShowsNothingUp};
-    ghost use Rattle.sja_wire.specs.Buses.{AllDry};
+    ghost use Rattle.sja_bus_rules.specs.Buses.{AllDry};
     ghost use Rattle.sja_threads.specs.declared.round.Round.TheVariants.{Ran, Rests, Spent};
-    ghost use Rattle.sja_threads.specs.Needed.{AllAtRest, last_awaited};
-    ghost use Rattle.sja_threads.specs.declared.notice.Notice.{Notice};
+    ghost use Rattle.sja_thread_promises.specs.Needed.{AllAtRest, last_awaited};
+    ghost use Rattle.sja_thread_promises.specs.declared.port_update.PortUpdate.{PortUpdate};
     ghost use Rattle.sja_threads.specs.Inside.Boards.{AllBegun, AllEnded, AreClosed, AreTold, StayClosed, turns_in};
-    ghost use Rattle.sja_threads.specs.Ordering.{is_spent};
+    ghost use Rattle.sja_thread_promises.specs.Ordering.{is_spent};
     ghost use Rattle.sja_threads.specs.Inside.Rounds.{EachHas, IsUnderWay, GoesOn, Stops, EndsAs};
 
     /// Takes what the drivers gave.
@@ -51,7 +51,7 @@ impl BusThread {
         ensures run { self.new.run ≡ self.old.run }
         ensures spent { self.new.spent ≡ self.old.spent }
         ensures dry { OnOk result (AllDry ShowsNothingUp self.new.bus.journals self.new.links.items) }
-        ensures told { OnOk result ((plan : PlanValue) (told : List (List Notice)) →
+        ensures told { OnOk result ((plan : PlanValue) (told : List (List PortUpdate)) →
             AreTold plan self.old.bus.journals told → AreTold plan self.new.bus.journals told) }
         ensures fault { IfErr result (λ f. (plan : PlanValue) → IsUnderWay plan self.old →
             Stops plan self.old self.new f) }

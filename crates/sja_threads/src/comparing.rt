@@ -1,10 +1,10 @@
-//! That each port is as the turns that it was told and its driver's deeds there have led to.
+//! That each port is as the turns that it was told and its driver's acts there have led to.
 
 ghost use Rattle.std.specs.Prelude.{◌≡◌, ◌≤◌, ◌<◌, ℕ, length, slice_index_or};
 ghost use Rattle.sja_rings.specs.declared.node_driver.NodeDriver.{NodeDriver as Driver};
 ghost use Rattle.sja_regs.specs.declared.registers.Registers.{Registers};
 ghost use Rattle.sja_threads.specs.declared.handover.Handover.{Handover as WorkedValue};
-ghost use Rattle.sja_threads.specs.Ordering.{LedBy};
+ghost use Rattle.sja_thread_promises.specs.Ordering.{LedBy};
 ghost use Rattle.sja_threads.specs.Inside.Boards.{turns_in};
 ghost use Rattle.sja_threads.specs.Inside.EndsInOrder.{AreInOrder};
 ghost use Rattle.sja_threads.specs.Inside.Names.{IsNamed};
@@ -14,10 +14,10 @@ use super::known_half::KnownHalf;
 use super::locked_port::LockedPort;
 use super::never::wait_for_ever;
 use super::order::Order;
-use super::port_deed::PortDeed;
 use super::turn_board::TurnBoard;
 use super::turns_of_node::TurnsOfNode;
 use sja_rings::NodeDriver;
+use sja_thread_promises::PortAct;
 use std::sync::{Mutex, Wait};
 
 /// Compares the port of each of so many nodes with the turns that the bus told and with what the driver handed back.
@@ -29,7 +29,7 @@ pub(crate) fn compare_all<N: Order, R: Wait>(
     requires told { nodes ≤ length board.old.told.items }
     requires workeds { nodes ≤ length workeds.old.items }
     requires named { (node : ℕ) (w : WorkedValue Driver) → node < nodes →
-        IsNamed N.deeds node (slice_index_or workeds.old.items node w).done.name }
+        IsNamed N.acts node (slice_index_or workeds.old.items node w).done.name }
     ensures told { turns_in board.new.told.items ≡ turns_in board.old.told.items }
     ensures workeds { workeds.new.items ≡ workeds.old.items }
     ensures order { AreInOrder N.version nodes (turns_in board.old.told.items) workeds.old.items }
@@ -52,9 +52,9 @@ fn compare_one<N: Order>(
     port: &Mutex<LockedPort<N>>,
     node: u8,
     told: &mut TurnsOfNode<N>,
-    done: &mut KnownHalf<PortDeed>,
+    done: &mut KnownHalf<PortAct>,
 )
-    requires { IsNamed N.deeds node done.old.name }
+    requires { IsNamed N.acts node done.old.name }
     ensures told { told.new.known ≡ told.old.known }
     ensures done { done.new ≡ done.old }
     ensures led { (p : Registers) × LedBy N.version told.old.known.list done.old.list p }

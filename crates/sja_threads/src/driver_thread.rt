@@ -5,13 +5,13 @@ ghost use Rattle.sja_regs.specs.DriverSettings.{settings_in};
 ghost use Rattle.sja_regs.specs.Registers.{at_power_on};
 ghost use Rattle.sja_driver.specs.LoggedDrivers.{log_of};
 ghost use Rattle.sja_driver.specs.Logs.{HasRoom, IsEmpty, KeepsLog, done_in, done_room};
-ghost use Rattle.sja_threads.specs.Asking.{IsLet};
-ghost use Rattle.sja_threads.specs.Ordering.{is_at_port};
+ghost use Rattle.sja_thread_promises.specs.Asking.{IsLet};
+ghost use Rattle.sja_thread_promises.specs.Ordering.{is_at_port};
 ghost use Rattle.sja_threads.specs.Working.{HasWorked};
 ghost use Rattle.sja_threads.specs.Inside.Names.{IsNamed};
 
+use super::acts_of_node::ActsOfNode;
 use super::at_gate::AtGate;
-use super::deeds_of_node::DeedsOfNode;
 use super::gate::Gate;
 use super::handover::Handover;
 use super::locked_port::LockedPort;
@@ -19,7 +19,7 @@ use super::order::Order;
 use sja_driver::{LoggedDriver, WorkLog, by_bytes};
 use sja_link::DriverEnd;
 use sja_regs::DriverSettings;
-use sja_script::{Step, StepAnswer};
+use sja_steps::{Step, StepAnswer};
 use std::sync::{Mutex, Wait};
 
 /// A driver in a thread of its own (this project's own rule): its node, whether it knows addresses and bytes alone, the
@@ -34,33 +34,32 @@ pub(crate) struct DriverThread<N: Order, D: Drop> {
     pub(crate) set: DriverSettings,
     pub(crate) found: u32,
     pub(crate) end: D,
-    pub(crate) done: DeedsOfNode<N>,
+    pub(crate) done: ActsOfNode<N>,
 }
 
 impl<N: Order, D: DriverEnd + Drop> DriverThread<N, D> {
-    ghost use Rattle.sja_threads.specs.declared.pass.Pass.TheVariants.{Go};
-    ghost use Rattle.sja_threads.specs.Asking.{pass_if};
-    ghost use Rattle.sja_threads.specs.Inside.Accesses.{HasEnded};
-    ghost use Rattle.sja_threads.specs.Inside.Steps.{MayWork, MayBegin, DoesDeed};
+    ghost use Rattle.sja_thread_promises.specs.declared.pass.Pass.TheVariants.{Go};
+    ghost use Rattle.sja_thread_promises.specs.Asking.{pass_if};
+    ghost use Rattle.sja_threads.specs.Inside.StepRuns.{HasEnded};
+    ghost use Rattle.sja_threads.specs.Inside.Steps.{MayWork, MayBegin, DoesAct};
 
-    /// Tries a deed at the port, which is held over the try, and gives its answer; none where it isn't done.
+    /// Tries an act at the port, which is held over the try, and gives its answer; none where it isn't done.
     fn try_at_port(
         &mut self,
         rt: &impl Wait,
         port: &Mutex<LockedPort<N>>,
-        deed: &Step,
+        act: &Step,
     ) -> Option<StepAnswer>
         requires may { MayWork D.node self.old 1 }
-        requires at_port { is_at_port deed.now ≡ true }
-        ensures { DoesDeed D.DriverEnd self.old self.new deed.now result }
+        requires at_port { is_at_port act.now ≡ true }
+        ensures { DoesAct D.DriverEnd self.old self.new act.now result }
     {
         let mut held = port.lock(rt);
         if !held.is_of(self.done.node) {
             return None;
         }
         let found = held.bits();
-        let Some(answer) = held.try_deed(&mut self.done, &mut self.driver, &mut self.end, deed)
-        else {
+        let Some(answer) = held.try_act(&mut self.done, &mut self.driver, &mut self.end, act) else {
             return None;
         };
         self.set = held.settings();
@@ -68,42 +67,42 @@ impl<N: Order, D: DriverEnd + Drop> DriverThread<N, D> {
         Some(answer)
     }
 
-    /// Tries a deed, and gives its answer; none where it isn't done. The port is held over the try, but not over a
+    /// Tries an act, and gives its answer; none where it isn't done. The port is held over the try, but not over a
     /// window's or a release's, which see none.
-    fn try_deed(
+    fn try_act(
         &mut self,
         rt: &impl Wait,
         port: &Mutex<LockedPort<N>>,
-        deed: &Step,
+        act: &Step,
     ) -> Option<StepAnswer>
         requires { MayWork D.node self.old 1 }
-        ensures { DoesDeed D.DriverEnd self.old self.new deed.now result }
+        ensures { DoesAct D.DriverEnd self.old self.new act.now result }
     {
-        match deed {
+        match act {
             Step::Window => self.driver.step_window(&mut self.end),
             Step::Release => self.driver.step_release(&mut self.end),
-            _ => self.try_at_port(rt, port, deed),
+            _ => self.try_at_port(rt, port, act),
         }
     }
 
-    /// Does a deed in the step of this number. The gate let the try go whose number stands in `tries`; it is asked
-    /// before each later one, of which the last one's number stands there then. It gives the deed's answer; none where
+    /// Does an act in the step of this number. The gate let the try go whose number stands in `tries`; it is asked
+    /// before each later one, of which the last one's number stands there then. It gives the act's answer; none where
     /// the gate quit.
-    pub(crate) fn do_deed<G: Gate, R: Wait>(
+    pub(crate) fn do_act<G: Gate, R: Wait>(
         &mut self,
         at: &AtGate<N, R, G>,
-        deed: &Step,
+        act: &Step,
         number: u32,
         tries: &mut u32,
     ) -> Option<StepAnswer>
         requires may { MayWork D.node self.old 1 }
         requires go { G.answered at.now.gate self.old.done.node number tries.old Go }
-        ensures done { DoesDeed D.DriverEnd self.old self.new deed.now result }
+        ensures done { DoesAct D.DriverEnd self.old self.new act.now result }
         ensures never { result ≡ None → G.QUITS ≡ true }
         ensures answered { G.answered at.now.gate self.old.done.node number tries.new (pass_if result) }
     {
         for _ in at.rt.forever() {
-            if let Some(answer) = self.try_deed(at.rt, at.port, deed) {
+            if let Some(answer) = self.try_act(at.rt, at.port, act) {
                 at.leave(self.done.node, *tries);
                 return Some(answer);
             }
@@ -125,7 +124,7 @@ impl<N: Order, D: DriverEnd + Drop> DriverThread<N, D> {
             done,
             ..
         } = self;
-        let DeedsOfNode { known, .. } = done;
+        let ActsOfNode { known, .. } = done;
         Handover {
             end,
             driver,
@@ -154,7 +153,7 @@ impl<N: Order, D: DriverEnd + Drop> DriverThread<N, D> {
 /// port.
 pub(crate) fn follow<N: Order, D: DriverEnd + Drop, G: Gate, R: Wait>(
     at: AtGate<N, R, G>,
-    done: DeedsOfNode<N>,
+    done: ActsOfNode<N>,
     end: D,
     log: WorkLog,
     steps: &[Step],
@@ -167,7 +166,7 @@ pub(crate) fn follow<N: Order, D: DriverEnd + Drop, G: Gate, R: Wait>(
     ensures same { D.same end result.end }
     ensures worked { HasWorked D.stands (settings_in (at_power_on done.version)) done.node steps.now end result
         result.done.list }
-    ensures named { IsNamed N.deeds done.node result.done.name }
+    ensures named { IsNamed N.acts done.node result.done.name }
     ensures keeps { KeepsLog log → KeepsLog (log_of result.driver) }
     ensures let_by { IsLet G.QUITS G.answered at.entry.gate done.node (length steps.now)
         (length (done_in (log_of result.driver))) }
@@ -200,10 +199,10 @@ pub(crate) fn follow<N: Order, D: DriverEnd + Drop, G: Gate, R: Wait>(
 /// bits, IER, EWLR, written error counters, acceptance filter, transmit buffer and version. The log is empty, with room
 /// for all steps; no step takes memory.
 ///
-/// A step is one deed. In version 3 a write is up to three, one after the other, by what the port shows as it begins:
+/// A step is one act. In version 3 a write is up to three, one after the other, by what the port shows as it begins:
 /// what the driver has set is known, and what the bus brought meanwhile isn't. Where a link gives an item back, the
-/// gate is asked again, and the deeds that are left are tried. `Read` and `Write` are those of any address there, in
-/// either mode, and no controller refuses them. `At` is no deed, and here the gate alone holds it. In
+/// gate is asked again, and the acts that are left are tried. `Read` and `Write` are those of any address there, in
+/// either mode, and no controller refuses them. `At` is no act, and here the gate alone holds it. In
 /// [`run_threads`](crate::run_threads) it passes once so many bits have run, and is given up where they are spent.
 ///
 /// In the log a step has how many bits had run by what the port was told as the driver last did something there, and a
@@ -215,7 +214,7 @@ pub fn work<'a, N: Order, D: DriverEnd + Drop, G: Gate>(
     rt: &'a impl Wait,
     end: D,
     port: &'a Mutex<LockedPort<N>>,
-    done: DeedsOfNode<N>,
+    done: ActsOfNode<N>,
     steps: &[Step],
     gate: G,
     log: WorkLog,

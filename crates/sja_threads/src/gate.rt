@@ -1,14 +1,14 @@
 //! [`Gate`]: what a driver in a thread of its own asks before each try of a step.
 
-use super::pass::Pass;
+use sja_thread_promises::Pass;
 
 /// What a driver in a thread of its own asks before each try of a step (this project's own rule). By it a caller orders
 /// the steps of several drivers, or ends a script.
 pub trait Gate: Send + Drop {
     ghost use Rattle.std.specs.Prelude.{◌≡◌, ◌≢◌, ℕ, Bool, true};
-    ghost use Rattle.sja_threads.specs.declared.pass.Pass.{Pass as PassValue};
-    ghost use Rattle.sja_threads.specs.declared.pass.Pass.TheVariants.{Go, Quit};
-    ghost use Rattle.sja_threads.specs.Asking.{IsNextNumber};
+    ghost use Rattle.sja_thread_promises.specs.declared.pass.Pass.{Pass as PassValue};
+    ghost use Rattle.sja_thread_promises.specs.declared.pass.Pass.TheVariants.{Go, Quit};
+    ghost use Rattle.sja_thread_promises.specs.Asking.{IsNextNumber};
 
     ghost QUITS: { Bool };
 

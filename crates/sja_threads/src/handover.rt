@@ -1,8 +1,8 @@
 //! [`Handover`]: what a driver hands back when its script has ended.
 
 use super::known_half::KnownHalf;
-use super::port_deed::PortDeed;
 use sja_driver::LoggedDriver;
+use sja_thread_promises::PortAct;
 
 /// What a driver hands back when its script has ended (this project's own rule): its end of the node's links,
 /// and the driver with the log of what it did. An open activation stays open.
@@ -13,5 +13,5 @@ pub struct Handover<D: Drop> {
     /// The driver, in either state, with its log.
     pub driver: LoggedDriver,
     /// The list of what it did at its port.
-    pub(crate) done: KnownHalf<PortDeed>,
+    pub(crate) done: KnownHalf<PortAct>,
 }

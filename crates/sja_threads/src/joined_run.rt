@@ -2,7 +2,7 @@
 
 ghost use Rattle.std.specs.Prelude.{◌≡◌, ◌≤◌, [], map, vec_len, vec_capacity};
 ghost use Rattle.lemmas.specs.Related.{EachRelated};
-ghost use Rattle.sja_threads.specs.Asking.{IsLet};
+ghost use Rattle.sja_thread_promises.specs.Asking.{IsLet};
 ghost use Rattle.sja_threads.specs.Inside.Promised.{IsPromised};
 
 use super::bus_thread::BusThread;

@@ -1,10 +1,10 @@
 //! The last bit that a step of a plan waits for.
 
 ghost use Rattle.std.specs.Prelude.{◌≡◌};
-ghost use Rattle.sja_threads.specs.Needed.{bits_awaited, last_awaited, most_awaited};
+ghost use Rattle.sja_thread_promises.specs.Needed.{bits_awaited, last_awaited, most_awaited};
 
 use sja_plan::Plan;
-use sja_script::Step;
+use sja_steps::Step;
 
 /// The most bits that a step of a plan's scripts waits for: 0 where none does.
 pub(crate) fn last_awaited(plan: &Plan) -> u32

@@ -2,19 +2,20 @@
 
 ghost use Rattle.std.specs.Prelude.{◌≡◌, ◌⊎◌, ◌<◌, ◌++◌, ℕ, true, false, List, length, slice_index_or, IfOk, IfErr};
 ghost use Rattle.std.specs.Prelude.{OnOk};
-ghost use Rattle.sja_link.specs.declared.down.Down.{Down};
+ghost use Rattle.sja_journal.specs.declared.down.Down.{Down};
 ghost use Rattle.sja_link.specs.Deques.{left_on};
 ghost use Rattle.sja_rings.specs.declared.node_bus.NodeBus.{NodeBus as Bus};
 ghost use Rattle.sja_rings.specs.declared.node_driver.NodeDriver.{NodeDriver as Driver};
 ghost use Rattle.sja_rings.specs.Ends.{OneLink};
 ghost use Rattle.sja_rings.specs.NodeRings.{OneNode};
 ghost use Rattle.sja_log.specs.declared.run_fault.RunFault.TheVariants.{Memory, Unsettled};
-ghost use Rattle.sja_log.specs.LeftDown.{on_link};
-ghost use Rattle.sja_threads.specs.Stopping.{IsUnsettledBy};
+ghost use Rattle.sja_promises.specs.LeftDown.{on_link};
+ghost use Rattle.sja_thread_promises.specs.Stopping.{IsUnsettledBy};
 ghost use Rattle.sja_threads.specs.Inside.Settling.{CameFrom, IsLeftOn, AllCameFrom, IsLeftOnAll, LeavesUnsettled};
 ghost use Rattle.sja_threads.specs.Inside.Settling.{AreLeftOn, SomeUnsettled};
 
-use sja_log::{LeftDown, RunFault};
+use sja_log::RunFault;
+use sja_promises::LeftDown;
 use sja_rings::{NodeBus, NodeDriver, RingBus, RingDriver, end_bus, end_driver, settle};
 use std::alloc::Global;
 

@@ -6,20 +6,18 @@
 //! its end of the node's links and the driver with its log ([`Handover`]). A [`TurnBoard`] is the board of a bus whose
 //! drivers stand in threads.
 //!
-//! A step of a plan is one deed; in version 3 a write is up to three, and a wait for a bit none. Contracts say which
-//! steps were done, and by which deeds, `HasWorked` of `specs/Working.antt`: for every journal, so whatever the bus
-//! does meanwhile, and with what the steps before have set (`Follows` of `specs/Accessing.antt`); and of a whole run
-//! what every run has, by which events each link carried what it did, and when its bits were due, `IsThreadedRun` of
-//! `specs/Threads.antt`. At each port some order of what the bus told it and of the driver's deeds there leads to what
-//! each deed found, `LedBy` of `specs/Ordering.antt`. No clause says that a wait ends.
+//! A step of a plan is one act; in version 3 a write is up to three, and a wait for a bit none. Contracts say which
+//! steps were done, and by which acts, `HasWorked` of `specs/Working.antt`: for every journal, so whatever the bus
+//! does meanwhile. What is promised of a whole run, and of the steps of a driver in it, is defined in
+//! `crates/sja_thread_promises`. No clause says that a wait ends.
 //!
 //! The run alone takes memory, none of it for a bit.
 #![tactic(auto)]
 
+mod acts_of_node;
 mod at_gate;
 mod bus_thread;
 mod comparing;
-mod deeds_of_node;
 mod driver_thread;
 mod drivers_and_ends;
 mod gate;
@@ -34,11 +32,8 @@ mod left_on_links;
 mod lobby;
 mod locked_port;
 mod never;
-mod notice;
 mod order;
 mod ordered_ports;
-mod pass;
-mod port_deed;
 mod port_lists;
 mod round;
 mod run;
@@ -51,20 +46,19 @@ mod turn_board;
 mod turns_of_node;
 mod waits;
 
-pub use deeds_of_node::DeedsOfNode;
+pub use acts_of_node::ActsOfNode;
 pub use driver_thread::work;
 pub use gate::Gate;
 pub use handover::Handover;
 pub use laws::{
     a_bus_stops_on_one_of_64_links, a_driver_in_reset_finds_reset_mode,
-    a_step_is_one_deed_before_version_3, an_abort_was_commanded,
+    a_step_is_one_act_before_version_3, an_abort_was_commanded,
 };
 pub use locked_port::LockedPort;
-pub use notice::Notice;
 pub use order::Order;
 pub use ordered_ports::port_of_node;
-pub use pass::Pass;
 pub use port_lists::PortLists;
 pub use run::run_threads;
+pub use sja_thread_promises::{Pass, PortUpdate};
 pub use turn_board::TurnBoard;
 pub use turns_of_node::TurnsOfNode;

@@ -1,6 +1,6 @@
 //! [`Lobby`]: where drivers that wait long, and the bus while nothing is due, say so.
 
-use sja_script::MOST_NODES;
+use sja_steps::MOST_NODES;
 
 /// How many nodes a bus has at most.
 const NODES: usize = MOST_NODES as usize;

@@ -5,28 +5,27 @@ ghost use Rattle.sja_regs.specs.declared.registers.Registers.{Registers};
 ghost use Rattle.sja_regs.specs.DriverSettings.{HasSettings, settings_in};
 ghost use Rattle.sja_driver.specs.AnyDrivers.{is_out};
 ghost use Rattle.sja_driver.specs.LoggedDrivers.{driver_of, MayStep, StaysLawful, Steps};
-ghost use Rattle.sja_threads.specs.Ordering.{LedBy, active_by, bits_told, done_in_order, orders_of};
-ghost use Rattle.sja_threads.specs.declared.notice.Notice.TheVariants.{Turn, Ran, Spent};
-ghost use Rattle.sja_threads.specs.Inside.Accesses.{EndsWait};
+ghost use Rattle.sja_thread_promises.specs.Ordering.{LedBy, active_by, bits_told, done_in_order, orders_of};
+ghost use Rattle.sja_thread_promises.specs.declared.port_update.PortUpdate.TheVariants.{Turn, Ran, Spent};
+ghost use Rattle.sja_threads.specs.Inside.StepRuns.{EndsWait};
 ghost use Rattle.sja_threads.specs.Inside.Names.{IsNamed};
 ghost use Rattle.sja_threads.specs.Inside.Ordered.{LockedValue, IsInOrder, set_after, done_if};
 
-use super::deeds_of_node::DeedsOfNode;
+use super::acts_of_node::ActsOfNode;
 use super::halves::{add, agree};
 use super::kept_half::KeptHalf;
 use super::known_half::KnownHalf;
-use super::notice::Notice;
 use super::order::Order;
-use super::port_deed::PortDeed;
 use super::turns_of_node::TurnsOfNode;
 use sja_driver::LoggedDriver;
 use sja_link::DriverEnd;
 use sja_regs::{BusTurn, DriverSettings, Orders, Port};
-use sja_script::{Refusal, Step, StepAnswer};
+use sja_steps::{Refusal, Step, StepAnswer};
+use sja_thread_promises::{PortAct, PortUpdate};
 use std::marker::{Model, PhantomData};
 
 /// A port behind its lock (this project's own rule): that of a node, how many bits have run by what it was told, for
-/// how many its driver waits, and the lists of what it was told and of the deeds that its driver did there. The lists
+/// how many its driver waits, and the lists of what it was told and of the acts that its driver did there. The lists
 /// are known to contracts alone, and the port is always as they have led to. Who adds to one has its other half.
 #[derive(Drop)]
 pub struct LockedPort<N: Order> {
@@ -34,8 +33,8 @@ pub struct LockedPort<N: Order> {
     port: Port,
     bits: u32,
     awaited: u32,
-    turns: KeptHalf<Notice>,
-    deeds: KeptHalf<PortDeed>,
+    turns: KeptHalf<PortUpdate>,
+    acts: KeptHalf<PortAct>,
     order: PhantomData<N>,
 }
 
@@ -48,18 +47,18 @@ impl<N: Order> Model for LockedPort<N> {
       bits = l.bits;
       turns_name = l.turns.name;
       turns = l.turns.list;
-      deeds_name = l.deeds.name;
-      deeds = l.deeds.list;
+      acts_name = l.acts.name;
+      acts = l.acts.list;
     } };
 
-    ghost invariant = { λ l. IsInOrder N.version N.turns N.deeds (record {
+    ghost invariant = { λ l. IsInOrder N.version N.turns N.acts (record {
       node = l.node;
       registers = l.port;
       bits = l.bits;
       turns_name = l.turns.name;
       turns = l.turns.list;
-      deeds_name = l.deeds.name;
-      deeds = l.deeds.list;
+      acts_name = l.acts.name;
+      acts = l.acts.list;
     }) };
 }
 
@@ -68,12 +67,12 @@ impl<N: Order> LockedPort<N> {
     pub(crate) fn new(
         node: u8,
         version: u8,
-        turns: KeptHalf<Notice>,
-        deeds: KeptHalf<PortDeed>,
+        turns: KeptHalf<PortUpdate>,
+        acts: KeptHalf<PortAct>,
     ) -> LockedPort<N>
         requires version { version ≡ N.version }
         requires turns { IsNamed N.turns node turns.name × (turns.list ≡ []) }
-        requires deeds { IsNamed N.deeds node deeds.name × (deeds.list ≡ []) }
+        requires acts { IsNamed N.acts node acts.name × (acts.list ≡ []) }
     {
         LockedPort {
             node,
@@ -81,7 +80,7 @@ impl<N: Order> LockedPort<N> {
             bits: 0,
             awaited: 0,
             turns,
-            deeds,
+            acts,
             order: PhantomData,
         }
     }
@@ -116,7 +115,7 @@ impl<N: Order> LockedPort<N> {
         self.port.bus_turn(&turn);
         self.bits = self.bits.saturating_add(1);
         told.abort = false;
-        add(&mut self.turns, &mut told.known, &Notice::Turn(turn));
+        add(&mut self.turns, &mut told.known, &PortUpdate::Turn(turn));
     }
 
     /// Tells it how many bits have run, and finds what its driver orders, and for how many it waits.
@@ -130,7 +129,11 @@ impl<N: Order> LockedPort<N> {
         told.ended |= orders.ended;
         told.abort = orders.abort;
         told.awaited = self.awaited;
-        add(&mut self.turns, &mut told.known, &Notice::Ran(bits, orders));
+        add(
+            &mut self.turns,
+            &mut told.known,
+            &PortUpdate::Ran(bits, orders),
+        );
     }
 
     /// How many bits have run by what it was told.
@@ -165,7 +168,7 @@ impl<N: Order> LockedPort<N> {
     {
         self.port.close();
         told.abort = false;
-        add(&mut self.turns, &mut told.known, &Notice::Spent);
+        add(&mut self.turns, &mut told.known, &PortUpdate::Spent);
     }
 
     /// Marks that the driver has ended.
@@ -174,60 +177,60 @@ impl<N: Order> LockedPort<N> {
     }
 
     /// The port, as its driver finds it.
-    pub(crate) fn found(&mut self, done: &mut DeedsOfNode<N>) -> &Port
+    pub(crate) fn found(&mut self, done: &mut ActsOfNode<N>) -> &Port
         requires { self.old.node ≡ done.old.node }
         ensures has { HasSettings result.now (set_after done.old.version done.old.known.list) }
         ensures done { done.new ≡ done.old }
     {
-        agree(&mut self.deeds, &mut done.known);
+        agree(&mut self.acts, &mut done.known);
         &self.port
     }
 
     /// Compares it with these lists of its node.
-    pub(crate) fn compare(&mut self, told: &mut TurnsOfNode<N>, done: &mut KnownHalf<PortDeed>)
+    pub(crate) fn compare(&mut self, told: &mut TurnsOfNode<N>, done: &mut KnownHalf<PortAct>)
         requires node { self.old.node ≡ told.old.node }
-        requires named { IsNamed N.deeds self.old.node done.old.name }
+        requires named { IsNamed N.acts self.old.node done.old.name }
         ensures told { (told.new.node ≡ told.old.node) × (told.new.known ≡ told.old.known) }
         ensures done { done.new ≡ done.old }
         ensures led { (p : Registers) × LedBy N.version told.old.known.list done.old.list p }
     {
         agree(&mut self.turns, &mut told.known);
-        agree(&mut self.deeds, done);
+        agree(&mut self.acts, done);
     }
 
-    /// Tries a deed there, and gives its answer; none where it isn't done.
-    pub(crate) fn try_deed<D: DriverEnd>(
+    /// Tries an act there, and gives its answer; none where it isn't done.
+    pub(crate) fn try_act<D: DriverEnd>(
         &mut self,
-        done: &mut DeedsOfNode<N>,
+        done: &mut ActsOfNode<N>,
         driver: &mut LoggedDriver,
         end: &mut D,
-        deed: &Step,
+        act: &Step,
     ) -> Option<StepAnswer>
         requires node { self.old.node ≡ done.old.node }
         requires active { active_by false (done_in_order done.old.known.list) ≡ is_out (driver_of driver.old) }
         requires may { MayStep D.node done.old.version driver.old end.old }
         ensures stays { StaysLawful D.same D.stands driver.old driver.new end.old end.new result }
         ensures steps { Steps D.same D.stands D.dry D.full driver.old driver.new end.old end.new
-            self.old.registers self.new.registers deed.now result }
+            self.old.registers self.new.registers act.now result }
         ensures has { HasSettings self.old.registers (set_after done.old.version done.old.known.list) }
         ensures done { done_in_order done.new.known.list
-            ≡ done_in_order done.old.known.list ++ done_if deed.now result self.old.bits }
+            ≡ done_in_order done.old.known.list ++ done_if act.now result self.old.bits }
         ensures set { IfSome result (λ a.
             set_after done.new.version done.new.known.list ≡ settings_in self.new.registers) }
         ensures waits { IfNone result (done.new ≡ done.old) }
         ensures node { (done.new.node ≡ done.old.node) × (done.new.version ≡ done.old.version) }
     {
-        agree(&mut self.deeds, &mut done.known);
-        let Some(answer) = driver.step(end, &mut self.port, deed) else {
+        agree(&mut self.acts, &mut done.known);
+        let Some(answer) = driver.step(end, &mut self.port, act) else {
             return None;
         };
-        let one = PortDeed {
-            step: deed.copy(),
+        let one = PortAct {
+            step: act.copy(),
             answer: answer.copy(),
             set: self.port.settings(),
             bits: self.bits,
         };
-        add(&mut self.deeds, &mut done.known, &one);
+        add(&mut self.acts, &mut done.known, &one);
         Some(answer)
     }
 }

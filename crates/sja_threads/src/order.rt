@@ -3,7 +3,7 @@
 use std::marker::Brand;
 
 /// Which lists the ports of a run keep (this project's own rule): by node the name of the list of turns that its port
-/// was told, and of that of its driver's deeds there; and the version of the ports.
+/// was told, and of that of its driver's acts there; and the version of the ports.
 pub trait Order {
     ghost use Rattle.std.specs.Prelude.{ℕ, List};
 
@@ -11,7 +11,7 @@ pub trait Order {
 
     ghost turns: { List ℕ };
 
-    ghost deeds: { List ℕ };
+    ghost acts: { List ℕ };
 }
 
 impl Order for Brand {
@@ -21,5 +21,5 @@ impl Order for Brand {
 
     ghost turns = { [] };
 
-    ghost deeds = { [] };
+    ghost acts = { [] };
 }

@@ -33,7 +33,7 @@ impl<N: Order> OrderedPorts<N> {
         requires few { length lists.items ≤ 8 }
         requires version { N.version ≡ plan.now.version }
         requires turns { map (λ l. l.turns.name) lists.items ≡ N.turns }
-        requires deeds { map (λ l. l.deeds.name) lists.items ≡ N.deeds }
+        requires acts { map (λ l. l.acts.name) lists.items ≡ N.acts }
         ensures ports { IfOk result (λ o. length o.ports.items ≡ length lists.items) }
         ensures told { IfOk result (λ o. length o.told.items ≡ length lists.items) }
         ensures none { IfOk result (λ o. NoneTold o.told.items) }
@@ -61,16 +61,16 @@ pub fn port_of_node<N: Order>(
 ) -> (LockedPort<N>, TurnsOfNode<N>)
     requires version { version ≡ N.version }
     requires turns { IsNamed N.turns node lists.turns.name }
-    requires deeds { IsNamed N.deeds node lists.deeds.name }
+    requires acts { IsNamed N.acts node lists.acts.name }
     ensures { result.1.known.list ≡ [] }
 {
     let PortLists {
         turns,
         told,
-        deeds,
+        acts,
         ..
     } = lists;
-    let port = LockedPort::new(node, version, turns, deeds);
+    let port = LockedPort::new(node, version, turns, acts);
     let turns = TurnsOfNode {
         node,
         known: told,

@@ -2,11 +2,11 @@
 
 ghost use Rattle.std.specs.Prelude.{◌≡◌, ◌≢◌, ◌≤◌, [], length, map, vec_len, vec_capacity, Err, IfOk, IfErr};
 ghost use Rattle.sja_plan.specs.Plan.{PlanValue};
-ghost use Rattle.sja_log.specs.Headline.{AreAccounts};
+ghost use Rattle.sja_promises.specs.Headline.{AreAccounts};
 ghost use Rattle.sja_log.specs.declared.run_fault.RunFault.TheVariants.{GateCount};
-ghost use Rattle.sja_threads.specs.Asking.{AtNode, IsLet};
-ghost use Rattle.sja_threads.specs.Stopping.{IsFaultOf};
-ghost use Rattle.sja_threads.specs.Threads.{AreLetBy, IsThreadedRun};
+ghost use Rattle.sja_thread_promises.specs.Asking.{AtNode, IsLet};
+ghost use Rattle.sja_thread_promises.specs.Stopping.{IsFaultOf};
+ghost use Rattle.sja_thread_promises.specs.Threads.{AreLetBy, IsThreadedRun};
 ghost use Rattle.sja_threads.specs.Inside.JoinedRun.{IsEnding};
 ghost use Rattle.sja_threads.specs.Inside.Making.{AreListed, AreRunParts};
 ghost use Rattle.sja_threads.specs.Inside.Boards.{NoneTold};
@@ -56,8 +56,8 @@ use std::thread::{Scope, Threads};
 /// exactly where it is longer than 64 less the bytes stored and not yet collected back. What each node saw in each bit
 /// is what all drove together, or the other level where the plan's faults strike it. What the link of each activation
 /// carried came by events of one link, each allowed when it came, in the order in which the journal has the bus's.
-/// Some order of what the bus told each port and of its driver's deeds there leads from power-on to the registers that
-/// each deed found; what was told is by the node's journal. An abort is applied in a bit only where it stood as the bus
+/// Some order of what the bus told each port and of its driver's acts there leads from power-on to the registers that
+/// each act found; what was told is by the node's journal. An abort is applied in a bit only where it stood as the bus
 /// told the port how many bits had run, just before. A gate is asked with the step's number and its tries from 1: it
 /// let each step go that was done, and where not all were it quit, asked about the next one. No clause says that a
 /// thread is served, or that the call returns.
@@ -104,7 +104,7 @@ fn run_ordered<N: Order + Send + Sync, G: Gate, R: Threads + Wait + Sync>(
     requires listed { AreListed (length plan.now.nodes) parts.starts.items lists.items }
     requires version { N.version ≡ plan.now.version }
     requires turns { map (λ l. l.turns.name) lists.items ≡ N.turns }
-    requires deeds { map (λ l. l.deeds.name) lists.items ≡ N.deeds }
+    requires acts { map (λ l. l.acts.name) lists.items ≡ N.acts }
     ensures run { IfOk result (λ log. IsThreadedRun plan.now log G.QUITS) }
     ensures let_by { IfOk result (AreLetBy G.QUITS G.answered asked.value.items plan.now) }
     ensures fault { IfErr result (IsFaultOf plan.now) }
@@ -142,12 +142,12 @@ fn run_drivers<N: Order + Send + Sync, G: Gate, R: Threads + Wait + Sync>(
     lobby: &Mutex<Lobby>,
 ) -> Result<(JoinedRun, Vec<TurnsOfNode<N>>), RunFault>
     requires parts { AreRunParts plan.now parts }
-    requires order { AreOrdered N.version N.deeds plan.now.version parts.starts.items }
+    requires order { AreOrdered N.version N.acts plan.now.version parts.starts.items }
     requires told { (length told.items ≡ length plan.now.nodes) × NoneTold told.items }
     requires ports { (length ports.now ≡ length plan.now.nodes) × (length plan.now.nodes ≤ 8) }
     ensures ending { IfOk result (λ r. IsEnding (AtNode (IsLet G.QUITS G.answered)
         (map (λ s. s.gate) parts.starts.items)) plan.now r.0) }
-    ensures order { IfOk result (λ r. IsEndingInOrder N.deeds plan.now r.0 r.1.items) }
+    ensures order { IfOk result (λ r. IsEndingInOrder N.acts plan.now r.0 r.1.items) }
     ensures fault { IfErr result (IsFaultOf plan.now) }
 {
     thread::scope(
@@ -155,12 +155,12 @@ fn run_drivers<N: Order + Send + Sync, G: Gate, R: Threads + Wait + Sync>(
         rt,
         move |scope| -> Result<(JoinedRun, Vec<TurnsOfNode<N>>), RunFault>
             requires parts { AreRunParts plan.now parts }
-            requires order { AreOrdered N.version N.deeds plan.now.version parts.starts.items }
+            requires order { AreOrdered N.version N.acts plan.now.version parts.starts.items }
             requires told { (length told.items ≡ length plan.now.nodes) × NoneTold told.items }
             requires ports { (length ports.now ≡ length plan.now.nodes) × (length plan.now.nodes ≤ 8) }
             ensures ending { IfOk result (λ r. IsEnding (AtNode (IsLet G.QUITS G.answered)
                 (map (λ s. s.gate) parts.starts.items)) plan.entry.now r.0) }
-            ensures order { IfOk result (λ r. IsEndingInOrder N.deeds plan.entry.now r.0 r.1.items) }
+            ensures order { IfOk result (λ r. IsEndingInOrder N.acts plan.entry.now r.0 r.1.items) }
             ensures fault { IfErr result (IsFaultOf plan.entry.now) }
         {
             let joined = run_in(scope, rt, alloc, plan, parts, told, ports, lobby);
@@ -187,12 +187,12 @@ fn run_in<'s, E, N: Order + Send + Sync + 's, G: Gate + 's, R: Threads + Wait + 
     lobby: &'s Mutex<Lobby>,
 ) -> Result<(JoinedRun, Vec<TurnsOfNode<N>>), RunFault>
     requires parts { AreRunParts plan.now parts }
-    requires order { AreOrdered N.version N.deeds plan.now.version parts.starts.items }
+    requires order { AreOrdered N.version N.acts plan.now.version parts.starts.items }
     requires told { (length told.items ≡ length plan.now.nodes) × NoneTold told.items }
     requires ports { (length ports.now ≡ length plan.now.nodes) × (length plan.now.nodes ≤ 8) }
     ensures ending { IfOk result (λ r. IsEnding (AtNode (IsLet G.QUITS G.answered)
         (map (λ s. s.gate) parts.starts.items)) plan.now r.0) }
-    ensures order { IfOk result (λ r. IsEndingInOrder N.deeds plan.now r.0 r.1.items) }
+    ensures order { IfOk result (λ r. IsEndingInOrder N.acts plan.now r.0 r.1.items) }
     ensures fault { IfErr result (IsFaultOf plan.now) }
 {
     let RunParts {

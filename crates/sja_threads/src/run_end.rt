@@ -1,13 +1,13 @@
 //! The end of a run whose drivers stood in threads, and its log.
 
 ghost use Rattle.std.specs.Prelude.{◌≡◌, ◌⊎◌, ◌≤◌, List, length, IfOk, IfErr};
-ghost use Rattle.sja_driver.specs.Deeds.{Deed};
+ghost use Rattle.sja_driver.specs.TypedActs.{TypedAct};
 ghost use Rattle.sja_plan.specs.Plan.{PlanValue};
-ghost use Rattle.sja_log.specs.Runs.{IsRun};
+ghost use Rattle.sja_promises.specs.Runs.{IsRun};
 ghost use Rattle.sja_log.specs.declared.run_fault.RunFault.TheVariants.{Memory, Bus, Unsettled};
-ghost use Rattle.sja_threads.specs.Asking.{AtNode, IsLet};
-ghost use Rattle.sja_threads.specs.Stopping.{IsFaultOf};
-ghost use Rattle.sja_threads.specs.Threads.{AreLetBy, IsThreadedRun};
+ghost use Rattle.sja_thread_promises.specs.Asking.{AtNode, IsLet};
+ghost use Rattle.sja_thread_promises.specs.Stopping.{IsFaultOf};
+ghost use Rattle.sja_thread_promises.specs.Threads.{AreLetBy, IsThreadedRun};
 ghost use Rattle.sja_threads.specs.Inside.EndsInOrder.{IsEndingInOrder};
 ghost use Rattle.sja_threads.specs.Inside.Ended.{IsOver};
 ghost use Rattle.sja_threads.specs.Inside.EndsJoined.{IsStopped};
@@ -24,8 +24,9 @@ use super::left_on_links::{all_account, settle_all};
 use super::order::Order;
 use super::turn_board::TurnBoard;
 use sja_bus::BusFault;
-use sja_log::{End, NoLog, RunFault, RunLog, node_runs};
+use sja_log::{End, NoLog, RunFault, RunLog};
 use sja_plan::Plan;
+use sja_promises::node_runs;
 use sja_rings::NodeDriver;
 use std::alloc::Global;
 use std::snapshot::Snapshot;
@@ -44,7 +45,7 @@ pub(crate) fn end_run<N: Order, G: Gate, R: Wait>(
     asked: Snapshot<Vec<G>>,
 ) -> Result<RunLog, RunFault>
     requires ending { IsEnding (AtNode (IsLet G.QUITS G.answered) asked.value.items) plan.now joined }
-    requires order { IsEndingInOrder N.deeds plan.now joined board.told.items }
+    requires order { IsEndingInOrder N.acts plan.now joined board.told.items }
     requires version { N.version ≡ plan.now.version }
     ensures run { IfOk result (λ log. IsThreadedRun plan.now log G.QUITS) }
     ensures let_by { IfOk result (AreLetBy G.QUITS G.answered asked.value.items plan.now) }
@@ -105,10 +106,10 @@ fn settled_log(
     workeds: Vec<Handover<NodeDriver>>,
     end: End,
 ) -> Result<RunLog, RunFault>
-    requires over { (deeds : List (List Deed)) × IsOver plan.now bus.bus bus.links.items workeds.items deeds }
+    requires over { (acts : List (List TypedAct)) × IsOver plan.now bus.bus bus.links.items workeds.items acts }
     requires bits { bus.bus.run ≡ bus.run }
-    ensures run { IfOk result (λ log. (deeds : List (List Deed)) →
-        IsOver plan.now bus.bus bus.links.items workeds.items deeds → IsRun plan.now log deeds) }
+    ensures run { IfOk result (λ log. (acts : List (List TypedAct)) →
+        IsOver plan.now bus.bus bus.links.items workeds.items acts → IsRun plan.now log acts) }
     ensures log { IfOk result (IsSettledLog bus.bus workeds.items end) }
     ensures fault { IfErr result (λ f. (f ≡ Memory) ⊎ ((f ≡ Unsettled)
         × SomeUnsettled bus.links.items (all_ends workeds.items))) }

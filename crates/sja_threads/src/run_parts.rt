@@ -2,7 +2,7 @@
 
 ghost use Rattle.std.specs.Prelude.{◌≡◌, [], length, map, vec_len, OnOk, IfOk};
 ghost use Rattle.sja_threads.specs.Inside.Making.{AreMade, AreListed};
-ghost use Rattle.sja_threads.specs.Stopping.{deed_counts};
+ghost use Rattle.sja_thread_promises.specs.Stopping.{act_counts};
 
 use super::bus_thread::BusThread;
 use super::gate::Gate;
@@ -12,10 +12,10 @@ use super::thread_promise::Child;
 use super::thread_start::ThreadStart;
 use can_frame::OutOfMemory;
 use sja_bus::Bus;
-use sja_driver::{WorkLog, most_deeds};
-use sja_link::ACTIVATIONS;
-use sja_log::script_of;
+use sja_driver::{WorkLog, most_acts};
+use sja_journal::ACTIVATIONS;
 use sja_plan::Plan;
+use sja_promises::script_of;
 use sja_rings::{NodeBus, NodeDriver, node_pair};
 use std::alloc::Global;
 
@@ -50,7 +50,7 @@ impl<G: Gate> RunParts<G> {
         plan.limits();
         let nodes = plan.nodes();
         let script = script_of(alloc, plan)?;
-        let steps = deeds_for(alloc, plan)?;
+        let steps = acts_for(alloc, plan)?;
         let bus = Bus::new(alloc, plan.bits() as u64, ACTIVATIONS, steps, script)?;
         let mut links = Vec::new(alloc);
         let mut lists = Vec::new(alloc);
@@ -73,17 +73,17 @@ impl<G: Gate> RunParts<G> {
     }
 }
 
-/// How many deeds the driver of each node may do, in order.
+/// How many acts the driver of each node may do, in order.
 ///
 /// Error: [`OutOfMemory`] where memory was refused.
-fn deeds_for(alloc: Global, plan: &Plan) -> Result<Vec<u64>, OutOfMemory>
+fn acts_for(alloc: Global, plan: &Plan) -> Result<Vec<u64>, OutOfMemory>
     ensures count { IfOk result (λ counts. length counts.items ≡ length plan.now.nodes) }
-    ensures counts { IfOk result (λ counts. counts.items ≡ deed_counts plan.now) }
+    ensures counts { IfOk result (λ counts. counts.items ≡ act_counts plan.now) }
 {
     let nodes = plan.nodes();
     let mut counts = Vec::with_capacity(alloc, nodes)?;
     for node in 0..nodes {
-        let Some(many) = most_deeds(plan.version(), plan.steps(node).len() as u64) else {
+        let Some(many) = most_acts(plan.version(), plan.steps(node).len() as u64) else {
             unreachable!()
         };
         counts.push_reserved(many);

@@ -3,13 +3,13 @@
 ghost use Rattle.std.specs.Prelude.{◌≡◌, ◌≤◌, [], length, map, vec_len, vec_capacity, All, IfOk, IfErr};
 ghost use Rattle.lemmas.specs.Related.{EachRelated};
 ghost use Rattle.sja_log.specs.declared.run_fault.RunFault.TheVariants.{Thread};
-ghost use Rattle.sja_threads.specs.Asking.{IsLet};
+ghost use Rattle.sja_thread_promises.specs.Asking.{IsLet};
 ghost use Rattle.sja_threads.specs.Inside.Started.{IsThreadStart, AreOrdered, Serves};
 ghost use Rattle.sja_threads.specs.Inside.Names.{IsOrderOf};
 ghost use Rattle.sja_threads.specs.Inside.Promised.{IsFor};
 
+use super::acts_of_node::ActsOfNode;
 use super::at_gate::AtGate;
-use super::deeds_of_node::DeedsOfNode;
 use super::driver_thread::follow;
 use super::gate::Gate;
 use super::handover::Handover;
@@ -17,12 +17,12 @@ use super::known_half::KnownHalf;
 use super::lobby::Lobby;
 use super::locked_port::LockedPort;
 use super::order::Order;
-use super::port_deed::PortDeed;
 use super::thread_promise::{Child, ThreadPromise};
 use sja_driver::WorkLog;
 use sja_log::RunFault;
 use sja_plan::Plan;
 use sja_rings::NodeDriver;
+use sja_thread_promises::PortAct;
 use std::snapshot::Snapshot;
 use std::sync::{Mutex, Wait};
 use std::thread::{Scope, Threads};
@@ -35,7 +35,7 @@ pub(crate) struct ThreadStart<G: Drop> {
     pub(crate) end: NodeDriver,
     pub(crate) log: WorkLog,
     pub(crate) gate: G,
-    pub(crate) done: KnownHalf<PortDeed>,
+    pub(crate) done: KnownHalf<PortAct>,
 }
 
 /// The part of a driver, in its own thread. It begins with what is set after power-on, in the plan's version of the
@@ -48,7 +48,7 @@ fn serve<N: Order, G: Gate>(
     lobby: &Mutex<Lobby>,
 ) -> Handover<NodeDriver>
     requires start { IsThreadStart plan.now start }
-    requires order { IsOrderOf N.version N.deeds plan.now.version start.node start.done.name }
+    requires order { IsOrderOf N.version N.acts plan.now.version start.node start.done.name }
     ensures { Serves (IsLet G.QUITS G.answered) plan.now start result }
 {
     let ThreadStart {
@@ -58,7 +58,7 @@ fn serve<N: Order, G: Gate>(
         gate,
         done,
     } = start;
-    let done = DeedsOfNode::<N>::new(node, plan.version(), done);
+    let done = ActsOfNode::<N>::new(node, plan.version(), done);
     let steps = plan.steps(usize::from(node));
     follow(
         AtGate::new(rt, port, gate, Some(lobby)),
@@ -81,7 +81,7 @@ fn start_one<'s, E, N: Order + Send + Sync + 's, G: Gate + 's, R: Threads + Wait
     lobby: &'s Mutex<Lobby>,
 ) -> Result<Child<G>, RunFault>
     requires start { IsThreadStart plan.now start }
-    requires order { IsOrderOf N.version N.deeds plan.now.version start.node start.done.name }
+    requires order { IsOrderOf N.version N.acts plan.now.version start.node start.done.name }
     ensures child { IfOk result (λ child. IsFor plan.now start child.promise) }
     ensures fault { IfErr result (λ f. f ≡ Thread) }
 {
@@ -96,7 +96,7 @@ fn start_one<'s, E, N: Order + Send + Sync + 's, G: Gate + 's, R: Threads + Wait
         promise,
         move || -> Handover<NodeDriver>
             requires start { IsThreadStart plan.now start }
-            requires order { IsOrderOf N.version N.deeds plan.now.version start.node start.done.name }
+            requires order { IsOrderOf N.version N.acts plan.now.version start.node start.done.name }
             ensures { Serves (IsLet G.QUITS G.answered) plan.entry.now start result }
         { serve(rt, plan, start, port, lobby) },
     ) {
@@ -118,7 +118,7 @@ pub(crate) fn start_all<'s, E, N: Order + Send + Sync + 's, G: Gate + 's, R: Thr
     children: Vec<Child<G>>,
 ) -> Result<Vec<Child<G>>, RunFault>
     requires starts { All (IsThreadStart plan.now) starts.items }
-    requires order { AreOrdered N.version N.deeds plan.now.version starts.items }
+    requires order { AreOrdered N.version N.acts plan.now.version starts.items }
     requires ports { length ports.now ≡ vec_len starts }
     requires room { vec_len starts ≤ vec_capacity children }
     requires none { children.items ≡ [] }

@@ -1,7 +1,7 @@
-//! The steps of a driver in its thread: each is one deed; in version 3 a write is up to three, a wait for a bit none.
+//! The steps of a driver in its thread: each is one act; in version 3 a write is up to three, a wait for a bit none.
 
 ghost use Rattle.std.specs.Prelude.{◌≡◌, true, false, length};
-ghost use Rattle.sja_threads.specs.Inside.Accesses.{IsTold};
+ghost use Rattle.sja_threads.specs.Inside.StepRuns.{IsTold};
 
 use super::at_gate::AtGate;
 use super::driver_thread::DriverThread;
@@ -9,21 +9,21 @@ use super::gate::Gate;
 use super::locked_port::LockedPort;
 use super::never::wait_for_ever;
 use super::order::Order;
-use sja_driver::{KeptBytes, WriteSteps, Written, is_reset, steps_of_write};
+use sja_driver::{UnmodelledRegisters, WriteSteps, Written, is_reset, steps_of_write};
 use sja_link::DriverEnd;
-use sja_script::{Step, StepAnswer};
+use sja_steps::{Step, StepAnswer};
 use std::sync::{Mutex, Wait};
 
 impl<N: Order, D: DriverEnd + Drop> DriverThread<N, D> {
     ghost use Rattle.sja_regs.specs.declared.registers.Registers.{Registers as PortRegisters};
     ghost use Rattle.sja_regs.specs.DriverSettings.{HasSettings};
-    ghost use Rattle.sja_driver.specs.Accesses.{kept_written};
+    ghost use Rattle.sja_driver.specs.StepRuns.{kept_written};
     ghost use Rattle.sja_driver.specs.LoggedDrivers.{kept_of, IsLawful};
     ghost use Rattle.sja_driver.specs.WriteLists.{listed, steps_in};
-    ghost use Rattle.sja_script.specs.declared.step.Step.TheVariants.{Write, At};
-    ghost use Rattle.sja_threads.specs.declared.pass.Pass.TheVariants.{Go};
-    ghost use Rattle.sja_threads.specs.Asking.{HasAnswered, pass_of};
-    ghost use Rattle.sja_threads.specs.Inside.Accesses.{HasOneDeed, BeginsWrite, DoesStep, BreaksOff};
+    ghost use Rattle.sja_steps.specs.declared.step.Step.TheVariants.{Write, At};
+    ghost use Rattle.sja_thread_promises.specs.declared.pass.Pass.TheVariants.{Go};
+    ghost use Rattle.sja_thread_promises.specs.Asking.{HasAnswered, pass_of};
+    ghost use Rattle.sja_threads.specs.Inside.StepRuns.{HasOneAct, BeginsWrite, DoesStep, BreaksOff};
     ghost use Rattle.sja_threads.specs.Inside.Steps.{MayWork, MayStep, DoesParts, LastTakes};
 
     /// Does a step of this number: the gate is asked before each try. It says whether the step is done; else the gate
@@ -51,7 +51,7 @@ impl<N: Order, D: DriverEnd + Drop> DriverThread<N, D> {
         }
     }
 
-    /// Waits until so many bits have run, of a driver that knows addresses and bytes alone: no deed.
+    /// Waits until so many bits have run, of a driver that knows addresses and bytes alone: no act.
     fn do_wait<G: Gate, R: Wait>(&mut self, at: &AtGate<N, R, G>, bits: u32, number: u32) -> bool
         requires may { MayStep D.node self.old 1 }
         requires bytes { self.old.bytes ≡ true }
@@ -70,10 +70,10 @@ impl<N: Order, D: DriverEnd + Drop> DriverThread<N, D> {
         true
     }
 
-    /// Does a step that is one deed.
+    /// Does a step that is one act.
     fn do_one<G: Gate, R: Wait>(&mut self, at: &AtGate<N, R, G>, step: &Step, number: u32) -> bool
         requires may { MayStep D.node self.old 1 }
-        requires one { HasOneDeed self.old.bytes step.now }
+        requires one { HasOneAct self.old.bytes step.now }
         requires asks { G.asks at.now.gate self.old.done.node number 1 }
         ensures done { result ≡ true → DoesStep D.DriverEnd self.old self.new step.now }
         ensures quits { result ≡ false → BreaksOff D.DriverEnd self.old self.new step.now }
@@ -86,17 +86,16 @@ impl<N: Order, D: DriverEnd + Drop> DriverThread<N, D> {
         }
         let bytes = self.bytes;
         let kept = self.kept_by_step(at.rt, at.port, step);
-        let Some(answer) = self.do_deed(at, step, number, &mut tries) else {
+        let Some(answer) = self.do_act(at, step, number, &mut tries) else {
             return false;
         };
         let mut moved = kept;
         moved.answered(&answer);
-        self.driver
-            .enter(told(bytes, &kept, step, answer), self.found as u64, moved);
+        self.driver.enter(reply(bytes, &kept, step, answer), self.found as u64, moved);
         true
     }
 
-    /// Does a write of a driver that knows addresses and bytes alone: up to three deeds.
+    /// Does a write of a driver that knows addresses and bytes alone: up to three acts.
     fn do_write<G: Gate, R: Wait>(
         &mut self,
         at: &AtGate<N, R, G>,
@@ -125,7 +124,7 @@ impl<N: Order, D: DriverEnd + Drop> DriverThread<N, D> {
         true
     }
 
-    /// Does the deeds that a write is, one after the other, and says whether all are done; else the gate quit.
+    /// Does the acts that a write is, one after the other, and says whether all are done; else the gate quit.
     fn do_parts<G: Gate, R: Wait>(
         &mut self,
         at: &AtGate<N, R, G>,
@@ -165,17 +164,17 @@ impl<N: Order, D: DriverEnd + Drop> DriverThread<N, D> {
         ensures never { result ≡ false → G.QUITS ≡ true }
         ensures answered { G.answered at.now.gate self.old.done.node number tries.new (pass_of result) }
     {
-        let Some(deed) = part else {
+        let Some(act) = part else {
             return true;
         };
-        let Some(answer) = self.do_deed(at, deed, number, tries) else {
+        let Some(answer) = self.do_act(at, act, number, tries) else {
             return false;
         };
         on.answered(&answer);
         true
     }
 
-    /// The deeds that a write is by what the port shows now, and the write as it begins.
+    /// The acts that a write is by what the port shows now, and the write as it begins.
     fn begin_write(
         &mut self,
         rt: &impl Wait,
@@ -202,7 +201,7 @@ impl<N: Order, D: DriverEnd + Drop> DriverThread<N, D> {
         rt: &impl Wait,
         port: &Mutex<LockedPort<N>>,
         step: &Step,
-    ) -> KeptBytes
+    ) -> UnmodelledRegisters
         requires { MayWork D.node self.old 1 }
         ensures same { self.new ≡ self.old }
         ensures kept { (p : PortRegisters) × HasSettings p self.old.set
@@ -220,9 +219,9 @@ impl<N: Order, D: DriverEnd + Drop> DriverThread<N, D> {
     }
 }
 
-/// What a step answers whose deed answered this: of a driver that knows addresses and bytes alone (`bytes`) a read a
+/// What a step answers whose act answered this: of a driver that knows addresses and bytes alone (`bytes`) a read a
 /// value in any case.
-fn told(bytes: bool, kept: &KeptBytes, step: &Step, answer: StepAnswer) -> StepAnswer
+fn reply(bytes: bool, kept: &UnmodelledRegisters, step: &Step, answer: StepAnswer) -> StepAnswer
     ensures { IsTold bytes kept.now step.now answer result }
 {
     match step {

@@ -1,7 +1,7 @@
 //! [`TurnBoard`]: the ports of a run in threads, as its bus has them.
 
 ghost use Rattle.std.specs.Prelude.{◌≡◌, ◌≢◌, ◌≤◌, ◌<◌, ◌++◌, ◌∷◌, [], ℕ, false, true, length};
-ghost use Rattle.sja_threads.specs.declared.notice.Notice.{Notice as ToldValue};
+ghost use Rattle.sja_thread_promises.specs.declared.port_update.PortUpdate.{PortUpdate as ToldValue};
 ghost use Rattle.sja_threads.specs.Inside.Boards.{AllEnded, EachTold, SaysBits, SaysSpent, turns_at, turns_in};
 
 use super::locked_port::LockedPort;
@@ -99,8 +99,8 @@ impl<'a, N: Order, R: Wait> TurnBoard<'a, N, R> {
 impl<'a, N: Order, R: Wait> Board for TurnBoard<'a, N, R> {
     ghost use Rattle.std.specs.Prelude.{◌≡◌, ◌++◌, [], ◌∷◌, length, refl};
     ghost use Rattle.std.proofs.Common.{◌∙◌, ap};
-    ghost use Rattle.sja_threads.specs.declared.notice.Notice.TheVariants.{Turn, Spent};
-    ghost use Rattle.sja_threads.specs.Ordering.{MayOrder};
+    ghost use Rattle.sja_thread_promises.specs.declared.port_update.PortUpdate.TheVariants.{Turn, Spent};
+    ghost use Rattle.sja_thread_promises.specs.Ordering.{MayOrder};
     ghost use Rattle.sja_threads.specs.Inside.Boards.{turns_at, turns_in};
 
     ghost ports = { λ b. length b.told.items };

@@ -1,12 +1,12 @@
 //! [`TurnsOfNode`]: the list of what the port of a node was told.
 
 ghost use Rattle.std.specs.Prelude.{◌≡◌};
-ghost use Rattle.sja_threads.specs.Ordering.{abort_told, ended_told};
+ghost use Rattle.sja_thread_promises.specs.Ordering.{abort_told, ended_told};
 ghost use Rattle.sja_threads.specs.Inside.Names.{IsNamed};
 
 use super::known_half::KnownHalf;
-use super::notice::Notice;
 use super::order::Order;
+use sja_thread_promises::PortUpdate;
 use std::marker::PhantomData;
 
 /// The list of what the port of a node was told, as the bus has it; whether its driver was found to have ended, and for
@@ -15,7 +15,7 @@ use std::marker::PhantomData;
 #[derive(Drop)]
 pub struct TurnsOfNode<N: Order> {
     pub(crate) node: u8,
-    pub(crate) known: KnownHalf<Notice>,
+    pub(crate) known: KnownHalf<PortUpdate>,
     pub(crate) ended: bool,
     pub(crate) abort: bool,
     pub(crate) awaited: u32,

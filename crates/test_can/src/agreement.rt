@@ -2,8 +2,9 @@
 
 use super::plain::read_plainly;
 use super::random::next;
-use can_bits::{Level, LineFault, Shift, line_of, read_line};
+use can_bits::{Shift, line_of, read_line};
 use can_frame::{DATA_BYTES, Frame};
+use can_levels::{Level, LineFault};
 use std::alloc::{AllocError, Global};
 
 /// The first of so many generated lists of which the three readers don't say the same; none where they agree.

@@ -1,8 +1,8 @@
 //! [`Bench`]: the stations of a row, the reader of its levels, and what its calls have answered.
 
+use super::acts::of_driver;
 use super::bits::of_bits;
 use super::contention::{contended, together};
-use super::deeds::of_driver;
 use super::frames::of_frames;
 use super::generation::of_generated;
 use super::hexadecimal::number;
@@ -43,7 +43,7 @@ impl Bench {
     }
 
     /// What was answered, each answer behind a blank, or that memory was refused.
-    pub fn told(self) -> Result<String, AllocError> {
+    pub fn render(self) -> Result<String, AllocError> {
         self.told.text()
     }
 
@@ -86,7 +86,7 @@ impl Bench {
     /// `new`, one in reset, `active tec=100`, one that was started, and `ask 000000 once`, one that was started without
     /// a special mode and holds a request: the next calls speak of it, up to `at 0`, from which on they speak of the
     /// first one. `strike 50 1`, the second station sees the other level in bit 50. Those of the whole wire are of
-    /// [`runs`](Bench::runs), and those of one station alone of `deeds`, `bits` and `shown`.
+    /// [`runs`](Bench::runs), and those of one station alone of `acts`, `bits` and `shown`.
     fn wired(&mut self, name: &str, rest: &str) {
         match name {
             "new" | "active" | "ask" => self.adds(made(name, rest)),

@@ -6,8 +6,8 @@ use super::hexadecimal::number;
 use super::levels::level_of;
 use super::node::Station;
 use super::row_answers::RowAnswers;
-use can_bits::Level;
-use can_node::{Counters, Phase};
+use can_levels::Level;
+use can_node_rules::{Counters, Phase};
 
 /// Does a call that is bits of a station. Of each bit is said what it brings, or `quiet` where no bit brings anything.
 ///
@@ -43,7 +43,7 @@ fn level_and_bits(rest: &str) -> Option<(Level, u32)> {
 fn own(told: &mut RowAnswers, station: &mut Station, name: &str, bits: u32) {
     match name {
         "echo" => echo(told, station, bits),
-        "struck" => struck(told, station, bits),
+        "struck" => strike(told, station, bits),
         _ => {
             for _ in 0..bits {
                 let level = station.drives();
@@ -177,7 +177,7 @@ pub fn tell_counters(told: &mut RowAnswers, counters: Counters) {
 
 /// So many bits with what the station drives, or the other level where they are struck; says of how many struck bits it
 /// was idle, drove dominant and had a fault, and else what they bring.
-fn struck(told: &mut RowAnswers, station: &mut Station, bits: u32) {
+fn strike(told: &mut RowAnswers, station: &mut Station, bits: u32) {
     let mut starts = 0u32;
     for bit in 0..bits {
         let own = station.drives();

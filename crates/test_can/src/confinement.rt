@@ -1,8 +1,8 @@
 //! Bus-off and recovery of a sender without others. Bits count from 0 with the start.
 
 use super::node::Station;
-use can_bits::Level;
-use can_node::Phase;
+use can_levels::Level;
+use can_node_rules::Phase;
 
 /// Whether a bit is struck, each an SOF: every 18th from 11 on, 16 times, and every 26th from 307 on, 16 times.
 pub fn is_struck(bit: u32) -> bool {

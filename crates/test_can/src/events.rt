@@ -1,7 +1,7 @@
 //! What a bit brings, in words.
 
 use super::row_answers::RowAnswers;
-use can_node::{BitEvents, Outcome};
+use can_node_rules::{BitEvents, Outcome};
 
 /// Whether a bit brought nothing.
 pub fn is_quiet(events: &BitEvents) -> bool {

@@ -1,7 +1,8 @@
 //! The levels of texts, and the lines of messages.
 
 use super::hexadecimal::frame_of;
-use can_bits::{Level, line_of};
+use can_bits::line_of;
+use can_levels::Level;
 use std::alloc::{AllocError, Global};
 
 /// Adds the levels of a text, 0 dominant and 1 recessive; blanks only part them.

@@ -4,8 +4,9 @@ use super::hexadecimal::{frame_of, number};
 use super::levels::{digit, level_of, levels_of, line_of_message};
 use super::row_answers::RowAnswers;
 use super::stuffing::received_line;
-use can_bits::{Level, LineFault, SentBody, Shift, crc_of, read_line};
+use can_bits::{SentBody, Shift, crc_of, read_line};
 use can_frame::{Frame, Message};
+use can_levels::{Level, LineFault};
 use std::alloc::{AllocError, Global};
 
 /// Does a call of whole lines.

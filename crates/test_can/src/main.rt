@@ -7,12 +7,12 @@
 //! have to agree.
 #![tactic(auto)]
 
+mod acts;
 mod agreement;
 mod bench;
 mod bits;
 mod confinement;
 mod contention;
-mod deeds;
 mod events;
 mod frames;
 mod generation;
@@ -48,7 +48,7 @@ impl Rows for Calls {
         for call in row.split("; ") {
             bench.does(call);
         }
-        Ok(bench.told()?)
+        Ok(bench.render()?)
     }
 }
 

@@ -1,8 +1,9 @@
 //! [`Station`]: a node on a wire, and what it was told so far.
 
-use can_bits::Level;
 use can_frame::Frame;
-use can_node::{AbortOutcome, BitEvents, Config, Counters, Node, Outcome, Phase, Request};
+use can_levels::Level;
+use can_node::Node;
+use can_node_rules::{AbortOutcome, BitEvents, Config, Counters, Outcome, Phase, Request};
 use test_frames::nodes::PLAIN;
 
 /// A node on a wire, and what it was told so far. Each call is that of the node; what the node's call promises stays

@@ -1,8 +1,9 @@
 //! A whole line read plainly: the list is taken apart, and each part is judged where it stands.
 
 use arrayvec::ArrayVec;
-use can_bits::{Level, LineFault, crc_of};
+use can_bits::crc_of;
 use can_frame::{DATA_BYTES, Frame};
+use can_levels::{Level, LineFault};
 
 /// How many levels a CRC sequence has.
 const CRC_LEVELS: usize = 15;

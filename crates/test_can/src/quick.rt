@@ -2,9 +2,10 @@
 
 use super::events::is_quiet;
 use super::random::next;
-use can_bits::Level;
 use can_frame::Frame;
-use can_node::{Config, Node, Request};
+use can_levels::Level;
+use can_node::Node;
+use can_node_rules::{Config, Request};
 use test_frames::nodes::PLAIN;
 
 /// Numbers that look random, always the same ones.

@@ -3,8 +3,9 @@
 use super::hexadecimal::number;
 use super::levels::line_of_message;
 use super::row_answers::RowAnswers;
-use can_bits::{Level, Segment, Shift, ShiftEvent};
+use can_bits::Shift;
 use can_frame::Message;
+use can_levels::{Level, Segment, ShiftEvent};
 use std::alloc::Global;
 use test_frames::segments::SEGMENTS;
 

@@ -1,7 +1,8 @@
 //! [`received_line`]: the line of a body, made plainly.
 
 use super::levels::push_text;
-use can_bits::{Level, crc_of};
+use can_bits::crc_of;
+use can_levels::Level;
 use std::alloc::{AllocError, Global};
 
 /// The acknowledged line of a body: its CRC sequence and stuff bits are added.

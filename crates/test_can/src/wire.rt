@@ -1,8 +1,8 @@
 //! [`Wire`]: several stations on one wire.
 
 use super::node::Station;
-use can_bits::Level;
 use can_frame::Frame;
+use can_levels::Level;
 use std::alloc::{AllocError, Global};
 
 /// More bits than any of the rows needs.

@@ -1,7 +1,7 @@
 //! Starts and requests in words.
 
 use super::hexadecimal::frame_of;
-use can_node::{Config, Request};
+use can_node_rules::{Config, Request};
 use test_frames::nodes::PLAIN;
 
 /// How a node is started: in no special mode, with `self_test` or `listen`, and with counters that were written, as

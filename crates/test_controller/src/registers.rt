@@ -18,5 +18,5 @@ pub fn answered(alloc: Global, row: &str) -> io::Result<String> {
         let words = call.split(' ').collect::<Vec<&str>>(alloc)?;
         bench.does(words.as_slice())?;
     }
-    Ok(bench.told())
+    Ok(bench.render())
 }

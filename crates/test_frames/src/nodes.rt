@@ -1,7 +1,7 @@
 //! How nodes are started.
 
 use can_frame::Filter;
-use can_node::Config;
+use can_node_rules::Config;
 
 /// No special mode, and every frame passes: no code bit is compared.
 pub const PLAIN: Config = Config {

@@ -1,6 +1,6 @@
 //! [`SEGMENTS`]: the segments by their names, for rows that say one.
 
-use can_bits::Segment;
+use can_levels::Segment;
 
 /// The segments by their names.
 pub const SEGMENTS: [(&str, Segment); 21] = [
@@ -15,10 +15,10 @@ pub const SEGMENTS: [(&str, Segment); 21] = [
     ("RtrExtended", Segment::RtrExtended),
     ("Reserved1", Segment::Reserved1),
     ("Reserved0", Segment::Reserved0),
-    ("LengthCode", Segment::LengthCode),
+    ("DataLengthCode", Segment::DataLengthCode),
     ("Data", Segment::Data),
-    ("CheckSequence", Segment::CheckSequence),
-    ("CheckDelimiter", Segment::CheckDelimiter),
+    ("CrcSequence", Segment::CrcSequence),
+    ("CrcDelimiter", Segment::CrcDelimiter),
     ("AckSlot", Segment::AckSlot),
     ("AckDelimiter", Segment::AckDelimiter),
     ("EndOfFrame", Segment::EndOfFrame),

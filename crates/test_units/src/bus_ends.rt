@@ -3,7 +3,8 @@
 
 use can_frame::OutOfMemory;
 use sja_bus::{are_links_of, serial_links};
-use sja_link::{ACTIVATIONS, BusEnd, DequeLinks, DriverEnd, Up};
+use sja_journal::{ACTIVATIONS, Up};
+use sja_link::{BusEnd, DequeLinks, DriverEnd};
 use sja_rings::{NodeBus, node_pair};
 use std::alloc::Global;
 use std::test::Fail;

@@ -5,8 +5,8 @@
 
 use can_frame::OutOfMemory;
 use sja_bus::{Bus, SerialBoard, serial_links};
-use sja_link::Endless;
-use sja_script::{FaultScript, Strike};
+use sja_journal::Endless;
+use sja_steps::{FaultScript, Strike};
 use std::alloc::Global;
 use std::test::Fail;
 

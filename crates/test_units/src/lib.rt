@@ -9,7 +9,7 @@
 //! | strikes of runs of each length | [`strikes`] |
 //! | whole runs over links of two rings in one thread, by a turn loop of the tests' own | [`ring_runs`] |
 //! | `sja_log` where a run has no log | [`run_logs`] |
-//! | `sja_replay`, `sja_report`, `sja_wave` over logs written by hand | [`replay`], [`reports`], [`waves`] |
+//! | `sja_replay`, `text_report`, `text_wave` over logs written by hand | [`replay`], [`reports`], [`waves`] |
 //! | `sja_serial`, `sja_threads`; writes of bytes whose item comes back | [`turns`], [`threads`] |
 //! | `sja_sweep` | [`sweeps`] |
 //! | `sja_session` | [`sessions`] |

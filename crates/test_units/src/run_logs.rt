@@ -2,8 +2,10 @@
 
 use sja_bus::NodeLog;
 use sja_driver::{LoggedDriver, WorkLog};
-use sja_link::{DequeLinks, Recorder, WITHOUT_END};
-use sja_log::{LeftDown, NoLog, node_runs};
+use sja_journal::{Recorder, WITHOUT_END};
+use sja_link::DequeLinks;
+use sja_log::NoLog;
+use sja_promises::{LeftDown, node_runs};
 use std::alloc::Global;
 use std::test::Fail;
 
@@ -32,10 +34,15 @@ fn nothing(alloc: Global) -> Result<NodeLog, Fail> {
 }
 
 /// How many nodes are told, of one to which nothing happened, and whose driver's log was made for this version and for
-/// so many steps and deeds.
-fn told(alloc: Global, version: u8, steps: u64, deeds: u64) -> Result<Result<usize, NoLog>, Fail> {
+/// so many steps and acts.
+fn count_nodes(
+    alloc: Global,
+    version: u8,
+    steps: u64,
+    acts: u64,
+) -> Result<Result<usize, NoLog>, Fail> {
     let logs = Vec::from_array(alloc, [nothing(alloc)?])?;
-    let driver = LoggedDriver::new(0, WorkLog::new(alloc, version, steps, deeds)?);
+    let driver = LoggedDriver::new(0, WorkLog::new(alloc, version, steps, acts)?);
     let runs = node_runs(alloc, logs, &[driver], &[LeftDown::new(alloc)]);
     Ok(runs.map(|runs| runs.len()))
 }
@@ -44,9 +51,9 @@ fn told(alloc: Global, version: u8, steps: u64, deeds: u64) -> Result<Result<usi
 #[test]
 fn a_node_whose_driver_has_a_log_without_an_end_is_not_told(rt: HostRuntime) -> Result<(), Fail> {
     let many = (1 << 40) + 1;
-    assert!(rt; told(rt.alloc(), 3, 10, 10)? == Ok(1));
-    assert!(rt; told(rt.alloc(), 3, many, 10)? == Err(NoLog::Endless));
-    assert!(rt; told(rt.alloc(), 3, 10, many)? == Err(NoLog::Endless));
-    assert!(rt; told(rt.alloc(), WITHOUT_END, 10, 10)? == Err(NoLog::Endless));
+    assert!(rt; count_nodes(rt.alloc(), 3, 10, 10)? == Ok(1));
+    assert!(rt; count_nodes(rt.alloc(), 3, many, 10)? == Err(NoLog::Endless));
+    assert!(rt; count_nodes(rt.alloc(), 3, 10, many)? == Err(NoLog::Endless));
+    assert!(rt; count_nodes(rt.alloc(), WITHOUT_END, 10, 10)? == Err(NoLog::Endless));
     Ok(())
 }

@@ -1,8 +1,8 @@
 //! Strikes of runs of few bits, which are written down bit by bit, and of runs of more bits, up to very many.
 
 use sja_bus::{Bus, SerialBoard, serial_links};
-use sja_link::ACTIVATIONS;
-use sja_script::{FaultScript, Strike};
+use sja_journal::ACTIVATIONS;
+use sja_steps::{FaultScript, Strike};
 use std::alloc::Global;
 
 /// Few bits, more than are written down one by one, and very many.

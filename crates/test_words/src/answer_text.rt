@@ -1,7 +1,7 @@
 //! Answers and messages as text.
 
 use can_frame::Message;
-use sja_script::StepAnswer;
+use sja_steps::StepAnswer;
 use std::fmt;
 
 /// What a step answered, as rows have it.

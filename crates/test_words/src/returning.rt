@@ -1,6 +1,7 @@
 //! Links that give one item back.
 
-use sja_link::{BusEnd, DequeLinks, Down, DriverEnd, Up};
+use sja_journal::{Down, Up};
+use sja_link::{BusEnd, DequeLinks, DriverEnd};
 
 /// The links of a node, of two queues, that give one of the items back that are put or given, once.
 #[derive(Drop)]

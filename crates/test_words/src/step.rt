@@ -2,7 +2,7 @@
 
 use super::{address, byte, bytes};
 use can_frame::Message;
-use sja_script::Step;
+use sja_steps::Step;
 
 /// The step of these words: `start`, `stop`, `window`, `release`, `sent`, `interrupt`, `read SR`, `write IER 01`,
 /// `load 00 24 60`, `command 01`, `await 2` or `at 500`; none where they are none.

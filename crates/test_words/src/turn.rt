@@ -5,8 +5,8 @@
 //! `fault=Form/EndOfFrame`.
 
 use super::{byte, named};
-use can_bits::Segment;
-use can_node::{BitEvents, Cause, Outcome, Phase};
+use can_levels::Segment;
+use can_node_rules::{BitEvents, Cause, Outcome, Phase};
 use sja_regs::BusTurn;
 use test_frames::segments::SEGMENTS;
 

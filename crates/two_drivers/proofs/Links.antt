@@ -5,7 +5,7 @@ use Rattle.std.proofs.Math.Seq.{take-append_seam}
 use Rattle.lemmas.specs.Related.{EachRelated}
 use Rattle.lemmas.proofs.Related.{each_one}
 use Rattle.sja_link.specs.Deques.{AreAlike, Deques}
-use Rattle.sja_link.specs.Links.{AreEnds, HaveLinks}
+use Rattle.sja_journal.specs.Links.{AreEnds, HaveLinks}
 use Rattle.sja_link.specs.NewLinks.{AreNewLinks}
 use Rattle.sja_bus.proofs.AllNodes.Many.{ends_kept, links_kept}
 

@@ -10,7 +10,7 @@ use sja_bus::{Bus, SerialBoard, serial_links};
 use sja_driver::Driver;
 use sja_link::DequeLinks;
 use sja_regs::{Port, letters};
-use sja_script::FaultScript;
+use sja_steps::FaultScript;
 use std::alloc::Global;
 use std::process::ExitCode;
 

@@ -6,17 +6,17 @@ use Rattle.std.proofs.Math.Pow.{pow_mono}
 use Rattle.std.proofs.lemmas.List.{length-append, append-nil, take_more}
 use Rattle.std.proofs.lemmas.Grind.{flat_map-append}
 use Rattle.can_frame.specs.Frame.{FrameValue, IsFrame}
-use Rattle.can_bits.specs.declared.level.Level.{Level}
-use Rattle.can_bits.specs.declared.level.Level.TheVariants.{Dominant, Recessive}
-use Rattle.can_bits.specs.Digits.{digit, level_of, bits, value}
-use Rattle.can_bits.specs.Body.{head_bits, sent_body}
-use Rattle.can_bits.specs.Fields.{dlc_place}
+use Rattle.can_levels.specs.declared.level.Level.{Level}
+use Rattle.can_levels.specs.declared.level.Level.TheVariants.{Dominant, Recessive}
+use Rattle.can_levels.specs.Digits.{digit, level_of, bits, value}
+use Rattle.can_levels.specs.Body.{head_bits, sent_body}
+use Rattle.can_levels.specs.Fields.{dlc_place}
 use Rattle.can_bits.specs.Packing.{Packs}
-use Rattle.can_bits.proofs.Values.{length-bits, value-append, value-append-bits}
-use Rattle.can_bits.proofs.Values.{value-bits, value-lt, bits-value, bits-split}
-use Rattle.can_bits.proofs.SaidCounts.{length_head}
-use Rattle.can_bits.proofs.Whole.Bytes.{length_bytes}
-use Rattle.can_bits.proofs.Packing.Frames.{count_most}
+use Rattle.can_levels.proofs.Values.{length-bits, value-append, value-append-bits}
+use Rattle.can_levels.proofs.Values.{value-bits, value-lt, bits-value, bits-split}
+use Rattle.can_levels.proofs.SaidCounts.{length_head}
+use Rattle.can_levels.proofs.Whole.Bytes.{length_bytes}
+use Rattle.can_levels.proofs.Packing.Frames.{count_most}
 
 -- the digits of a number after packed levels
 pub packs_bits : (word place new at count number : ℕ) (b : List Level) → Packs word place b → length b + count ≤ 118 →

@@ -3,14 +3,14 @@ use Rattle.std.proofs.Common.{◌≡◌, ◌≢◌, ◌+◌, ◌<◌, ◌≤◌,
 use Rattle.std.proofs.Common.{List, [], ◌∷◌, ◌++◌, length, refl, ap, sym, ◌∙◌, arith}
 use Rattle.std.proofs.lemmas.Bool.{cases_lt, lt-ltb, le-ltb}
 use Rattle.std.proofs.lemmas.List.{length_push, get_or_append_left}
-use Rattle.can_bits.specs.declared.level.Level.{Level}
-use Rattle.can_bits.specs.declared.level.Level.TheVariants.{Dominant}
-use Rattle.can_bits.specs.Fields.{is_recessive, says_ext, says_count, dlc_place}
-use Rattle.can_bits.specs.Inside.Data.{data_place}
-use Rattle.can_bits.specs.Segments.{segment_in, segments_of, segment_at}
-use Rattle.can_bits.specs.FramePlaces.{index_in, index_at}
+use Rattle.can_levels.specs.declared.level.Level.{Level}
+use Rattle.can_levels.specs.declared.level.Level.TheVariants.{Dominant}
+use Rattle.can_levels.specs.Fields.{is_recessive, says_ext, says_count, dlc_place}
+use Rattle.can_levels.specs.DataBits.{data_place}
+use Rattle.can_levels.specs.Segments.{segment_in, segments_of, segment_at}
+use Rattle.can_levels.specs.FramePlaces.{index_in, index_at}
 use Rattle.can_bits.specs.Inside.Gathering.{mark_of}
-use Rattle.can_bits.proofs.SaidCounts.{says_count-more}
+use Rattle.can_levels.proofs.SaidCounts.{says_count-more}
 
 -- a DLC ends at 19 or later
 head_least : (e : Bool) → 19 ≤ dlc_place e + 4
@@ -70,15 +70,6 @@ mark_least w =
         | inl before ↦ omega (arith, mark_head w late before, head_least (says_ext w))
         | inr past ↦ omega (arith, mark_said w past, head_least (says_ext w))
       ]
-    ]
-
--- the next one, from the end of a standard frame's DLC on
-pub mark_moved : (w : List Level) (m : ℕ) → 19 ≤ length w → (length w < data_place w → m ≡ data_place w) →
-    (data_place w ≤ length w → m ≡ says_count w) → m ≡ mark_of w
-mark_moved w m late head said =
-    elim (cases_lt (length w) (data_place w)) [
-      | inl before ↦ head before ∙ sym (mark_head w late before)
-      | inr past ↦ said past ∙ sym (mark_said w past)
     ]
 
 -- all levels have come where the mark is reached and they are as many as they say

@@ -5,13 +5,13 @@ use Rattle.std.proofs.Math.Pow.{pow_mono}
 use Rattle.std.proofs.lemmas.Nat.{div-mul-add, mod-mul-add, pow-add}
 use Rattle.std.proofs.lemmas.List.{drop_more, take-append-drop, length-append, length-drop}
 use Rattle.std.proofs.lemmas.List.Folds.{drop_split}
-use Rattle.can_bits.specs.declared.level.Level.{Level}
-use Rattle.can_bits.specs.declared.level.Level.TheVariants.{Dominant, Recessive}
-use Rattle.can_bits.specs.Digits.{digit, level_of, value}
-use Rattle.can_bits.specs.Fields.{level_at}
+use Rattle.can_levels.specs.declared.level.Level.{Level}
+use Rattle.can_levels.specs.declared.level.Level.TheVariants.{Dominant, Recessive}
+use Rattle.can_levels.specs.Digits.{digit, level_of, value}
+use Rattle.can_levels.specs.Fields.{level_at}
 use Rattle.can_bits.specs.Packing.{Packs}
 use Rattle.lemmas.proofs.Lists.{length_range}
-use Rattle.can_bits.proofs.Values.{value-append, value-lt, value-push}
+use Rattle.can_levels.proofs.Values.{value-append, value-lt, value-push}
 
 -- a number in three parts, of which the one in the middle is wanted
 middle : (p s d k m n : ℕ) → s < 2 ^ k → d < 2 ^ m → n ≡ p * 2 ^ (k + m) + (s * 2 ^ m + d) → n / 2 ^ m % 2 ^ k ≡ s

@@ -2,10 +2,10 @@
 use Rattle.std.proofs.Common.{◌≡◌, ◌≢◌, ◌+◌, ◌*◌, ◌%◌, ◌^◌, ◌<◌, ◌∙◌, ◌∷◌, ◌++◌, [], ℕ, List}
 use Rattle.std.proofs.Common.{ap, sym, subst, arith, length}
 use Rattle.std.proofs.lemmas.List.{length_push}
-use Rattle.can_bits.specs.declared.level.Level.{Level}
+use Rattle.can_levels.specs.declared.level.Level.{Level}
 use Rattle.can_bits.specs.declared.body_word.BodyWord.{BodyWord}
-use Rattle.can_bits.specs.Check.{IsMultiple}
-use Rattle.can_bits.specs.Digits.{digit, value}
+use Rattle.can_levels.specs.Check.{IsMultiple}
+use Rattle.can_levels.specs.Digits.{digit, value}
 use Rattle.can_bits.specs.Packing.{Packs}
 use Rattle.can_bits.specs.Inside.Gathering.{Gathers, mark_of}
 use Rattle.can_bits.proofs.Packing.Numbers.{packs_push, packs_small}

@@ -5,11 +5,11 @@ use Rattle.std.proofs.Math.Nat.{pow-succ'}
 use Rattle.std.proofs.lemmas.Bool.{cases_Bool, eqb-true, eqb-false}
 use Rattle.std.specs.Prelude.{bit_xor}
 use Rattle.std.specs.Int.Bits.{xor_block, xor_zero_l}
-use Rattle.can_bits.specs.declared.level.Level.{Level}
-use Rattle.can_bits.specs.Digits.{value}
-use Rattle.can_bits.specs.Check.{generator, product, IsMultiple, Crc}
+use Rattle.can_levels.specs.declared.level.Level.{Level}
+use Rattle.can_levels.specs.Digits.{value}
+use Rattle.can_levels.specs.Check.{generator, product, IsMultiple, Crc}
 use Rattle.can_bits.specs.Inside.Gathering.{SaysWhetherRight}
-use Rattle.can_bits.proofs.Products.{IsMultiple-double, multiples_agree}
+use Rattle.can_levels.proofs.Products.{IsMultiple-double, multiples_agree}
 
 -- the generator and a double: their sum is odd
 odd_sum : (m : ℕ) → (k : ℕ) × (bit_xor generator (2 * m) ≡ 2 * k + 1)

@@ -2,16 +2,16 @@
 use Rattle.std.proofs.Common.{◌≡◌, ◌≢◌, ◌+◌, ◌-◌, ◌%◌, ◌<◌, ◌≤◌, suc, inl, ℕ, Option, None, List, [], ◌∷◌, ◌++◌}
 use Rattle.std.proofs.Common.{length, take, drop, set, slice_range, refl, ap, sym, subst, ◌∙◌, arith}
 use Rattle.std.proofs.lemmas.List.{length_push, length-drop, drop-set-add, take_more_set}
-use Rattle.can_bits.specs.declared.level.Level.{Level}
+use Rattle.can_levels.specs.declared.level.Level.{Level}
 use Rattle.can_bits.specs.declared.body_word.BodyWord.{BodyWord}
 use Rattle.can_bits.specs.declared.frame_part.FramePart.{FramePart}
 use Rattle.can_bits.specs.declared.frame_part.FramePart.TheVariants.{Stuffed}
-use Rattle.can_bits.specs.declared.shift_fault.ShiftFault.{ShiftFault}
+use Rattle.can_levels.specs.declared.shift_fault.ShiftFault.{ShiftFault}
 use Rattle.can_bits.specs.declared.sent_body.SentBody.{SentBody}
 use Rattle.can_bits.specs.declared.shift.Shift.{Shift}
 use Rattle.can_bits.specs.Inside.Gathering.{Gathers}
-use Rattle.can_bits.specs.Inside.PartSoFar.{EndsInRun}
-use Rattle.can_bits.specs.Inside.PartSoFar.EndsInRun.{nothing as no_run, longer, other}
+use Rattle.can_levels.specs.PartSoFar.{EndsInRun}
+use Rattle.can_levels.specs.PartSoFar.EndsInRun.{nothing as no_run, longer, other}
 use Rattle.can_bits.specs.Sending.{TakesInside, SendsAlong, next_level}
 use Rattle.can_bits.specs.Sending.SendsAlong.{nothing, one_more}
 use Rattle.can_bits.specs.Shifts.{StandsFor}

@@ -4,15 +4,15 @@ use Rattle.std.proofs.Common.{Option, Some, List, [], ◌∷◌, ◌++◌, lengt
 use Rattle.std.proofs.Common.{refl, ap, sym, subst, ◌∙◌, arith}
 use Rattle.std.proofs.lemmas.Bool.{cases_eq, eq-eqb, ne_eqb}
 use Rattle.std.proofs.lemmas.List.{drop-set-lt, drop-drop}
-use Rattle.can_bits.specs.declared.level.Level.{Level}
-use Rattle.can_bits.specs.declared.level.Level.TheVariants.{Dominant, Recessive}
+use Rattle.can_levels.specs.declared.level.Level.{Level}
+use Rattle.can_levels.specs.declared.level.Level.TheVariants.{Dominant, Recessive}
 use Rattle.can_bits.specs.declared.frame_part.FramePart.TheVariants.{Stuffed}
 use Rattle.can_bits.specs.declared.sent_body.SentBody.{SentBody}
 use Rattle.can_bits.specs.declared.shift.Shift.{Shift}
 use Rattle.can_bits.specs.Inside.Gathering.{Gathers}
-use Rattle.can_bits.specs.Digits.{level_of, opposite}
+use Rattle.can_levels.specs.Digits.{level_of, opposite}
 use Rattle.can_bits.specs.Sending.{TakesInside, SendsAlong, next_at, or_crc, packed_level, place_of}
-use Rattle.can_bits.proofs.Packing.Words.{digit_next}
+use Rattle.can_levels.proofs.Packing.Words.{digit_next}
 use Rattle.can_bits.proofs.Reader.Along.{inside, takes_one, one_level, range_more}
 use Rattle.can_bits.proofs.Reader.Take.{levels_equal}
 

@@ -5,20 +5,21 @@ use Rattle.std.proofs.lemmas.Bool.{cases_eq}
 use Rattle.std.proofs.lemmas.List.{append-nil, length-append, length-drop, length-take-le, get_or_push}
 use Rattle.std.proofs.lemmas.List.{length_push, take_more, take-append-drop, get_or_append_left}
 use Rattle.can_frame.specs.Frame.{FrameValue}
-use Rattle.can_bits.specs.declared.level.Level.{Level}
-use Rattle.can_bits.specs.declared.level.Level.TheVariants.{Dominant, Recessive}
+use Rattle.can_levels.specs.declared.level.Level.{Level}
+use Rattle.can_levels.specs.declared.level.Level.TheVariants.{Dominant, Recessive}
 use Rattle.can_bits.specs.declared.body_word.BodyWord.{BodyWord}
-use Rattle.can_bits.specs.declared.line_fault.LineFault.TheVariants.{Form, Crc as CheckFault, Trailing}
-use Rattle.can_bits.specs.Check.{Crc}
-use Rattle.can_bits.specs.Line.{StuffedPart, Line, tail}
-use Rattle.can_bits.specs.Reading.{IsPastPart}
-use Rattle.can_bits.specs.Segments.{IsNext, segment_after}
-use Rattle.can_bits.specs.Segments.IsNext.{after_part}
-use Rattle.can_bits.specs.FramePlaces.{IsNextPlace, place_after}
-use Rattle.can_bits.specs.FramePlaces.IsNextPlace.{after_part as after_place}
-use Rattle.can_bits.specs.Streaming.{IsReadable, IsLineButFor, BreaksWith, ShowsFrame, ShowsFrameBut}
+use Rattle.can_levels.specs.declared.line_fault.LineFault.TheVariants.{Form, Crc as CheckFault, Trailing}
+use Rattle.can_levels.specs.Check.{Crc}
+use Rattle.can_levels.specs.Line.{Line, tail}
+use Rattle.can_levels.specs.Reading.{IsPastPart}
+use Rattle.can_levels.specs.Segments.{IsNext, segment_after}
+use Rattle.can_levels.specs.Segments.IsNext.{after_part}
+use Rattle.can_levels.specs.FramePlaces.{IsNextPlace, place_after}
+use Rattle.can_levels.specs.FramePlaces.IsNextPlace.{after_part as after_place}
+use Rattle.can_levels.specs.Streaming.{IsReadable, IsLineButFor, BreaksWith, ShowsFrame, ShowsFrameBut}
 use Rattle.can_bits.specs.Inside.FrameParts.{IsPast}
-use Rattle.can_bits.proofs.Ending.{line_at}
+use Rattle.can_levels.proofs.Ending.{line_at}
+use Rattle.can_levels.proofs.LineEnds.{missing}
 
 -- the segment of the next level
 pub past_next : {g : BodyWord} {count : ℕ} (n : ℕ) (l : List Level) → IsPast n g count l →
@@ -34,15 +35,6 @@ past_place n l h =
     let many : length (take n (tail h.ack)) ≡ n = length-take-le n (tail h.ack) h.within in
     subst (λ (k : ℕ). IsNextPlace l (place_after k)) many
     (after_place h.part (take n (tail h.ack)) h.is_part h.whole)
-
--- what a part and some of its tail are missing
-pub missing : {f g : FrameValue} {b c d e : List Level} {ack : Level} (part after rest : List Level) →
-    StuffedPart f b c part →
-    Line g d e ack ((part ++ after) ++ rest) → length after + length rest ≡ 10
-missing part after rest h line =
-    let on = line_at part after rest h line in
-    let count = ap length on.tails in
-    omega (arith, count, length-append after rest)
 
 -- the line goes on
 past_line : {g : BodyWord} {count : ℕ} (n : ℕ) (l : List Level) (h : IsPast n g count l) →

@@ -3,24 +3,24 @@ use Rattle.std.proofs.Common.{◌≡◌, ◌≢◌, ◌<◌, ℕ, Bool, true, fa
 use Rattle.std.proofs.Common.{List, length, reverse, take, ap, sym, subst, ◌∙◌, arith}
 use Rattle.std.proofs.lemmas.Bool.{le-leb, lt-leb}
 use Rattle.std.proofs.lemmas.List.{length-reverse}
-use Rattle.can_bits.specs.declared.level.Level.{Level}
+use Rattle.can_levels.specs.declared.level.Level.{Level}
 use Rattle.can_bits.specs.declared.frame_part.FramePart.{FramePart}
 use Rattle.can_bits.specs.declared.frame_part.FramePart.TheVariants.{Stuffed, FixedForm}
 use Rattle.can_bits.specs.declared.body_word.BodyWord.{BodyWord}
 use Rattle.can_bits.specs.declared.shift.Shift.{Shift}
-use Rattle.can_bits.specs.declared.shift_fault.ShiftFault.{ShiftFault}
-use Rattle.can_bits.specs.Fields.{rtr_place}
-use Rattle.can_bits.specs.Line.{tail}
-use Rattle.can_bits.specs.Places.{is_full, plain_count}
-use Rattle.can_bits.specs.Streaming.{IsReadable}
-use Rattle.can_bits.specs.Inside.PartSoFar.{BeginsPart}
+use Rattle.can_levels.specs.declared.shift_fault.ShiftFault.{ShiftFault}
+use Rattle.can_levels.specs.Fields.{rtr_place}
+use Rattle.can_levels.specs.Line.{tail}
+use Rattle.can_levels.specs.Places.{is_full, plain_count}
+use Rattle.can_levels.specs.Streaming.{IsReadable}
+use Rattle.can_levels.specs.PartSoFar.{BeginsPart}
 use Rattle.can_bits.specs.Inside.FrameParts.{IsInside, IsPast, ReadsAt}
 use Rattle.can_bits.specs.Shifts.{StandsBy, StandsFor}
-use Rattle.can_bits.proofs.Runs.{run}
-use Rattle.can_bits.proofs.Stuffs.{unstuffed_by, run-leads}
-use Rattle.can_bits.proofs.Reader.Inside.{holds_by}
+use Rattle.can_levels.proofs.Runs.{run}
+use Rattle.can_levels.proofs.Stuffs.{unstuffed_by, run-leads}
+use Rattle.can_levels.proofs.Reader.Inside.{holds_by}
 use Rattle.can_bits.proofs.DueLemmas.{broke_not_readable}
-use Rattle.can_bits.proofs.PlaceLemmas.{five-is, plain_count-is, part_late}
+use Rattle.can_levels.proofs.PlaceLemmas.{five-is, plain_count-is, part_late}
 
 -- a reader of levels that are right so far has no fault
 reads_by : (s : Shift) (w : Option ShiftFault) (l : List Level) → StandsBy w s l → IsReadable l →

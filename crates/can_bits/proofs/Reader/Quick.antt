@@ -1,25 +1,24 @@
 -- A right level of the stuffed part, past SOF.
-use Rattle.std.proofs.Common.{◌≡◌, ◌≢◌, ◌⊎◌, inl, inr, ℕ, Option, None, Some, List}
+use Rattle.std.proofs.Common.{◌≡◌, ◌≢◌, ◌⊎◌, inl, inr, Option, None, Some, List}
 use Rattle.std.proofs.Common.{[], ◌∷◌, ◌++◌, length, refl, ap, sym, subst, ◌∙◌, arith}
-use Rattle.std.proofs.lemmas.List.{nil_from_length}
 use Rattle.can_frame.specs.Frame.{FrameValue}
-use Rattle.can_bits.specs.declared.level.Level.{Level}
-use Rattle.can_bits.specs.declared.level.Level.TheVariants.{Recessive}
-use Rattle.can_bits.specs.declared.line_fault.LineFault.TheVariants.{Stuff}
+use Rattle.can_levels.specs.declared.level.Level.{Level}
+use Rattle.can_levels.specs.declared.level.Level.TheVariants.{Recessive}
+use Rattle.can_levels.specs.declared.line_fault.LineFault.TheVariants.{Stuff}
 use Rattle.can_bits.specs.declared.frame_part.FramePart.{FramePart}
 use Rattle.can_bits.specs.declared.frame_part.FramePart.TheVariants.{Stuffed, FixedForm}
 use Rattle.can_bits.specs.declared.shift.Shift.{Shift}
-use Rattle.can_bits.specs.declared.shift_fault.ShiftFault.{ShiftFault}
-use Rattle.can_bits.specs.Line.{StuffedPart, tail}
-use Rattle.can_bits.specs.Streaming.{IsReadable, IsRightInside, IsOver, ShowsFrame}
-use Rattle.can_bits.specs.Acknowledging.{IsAckDue}
+use Rattle.can_levels.specs.declared.shift_fault.ShiftFault.{ShiftFault}
+use Rattle.can_levels.specs.Line.{StuffedPart, tail}
+use Rattle.can_levels.specs.Streaming.{IsReadable, IsRightInside, IsOver, ShowsFrame}
+use Rattle.can_levels.specs.Acknowledging.{IsAckDue}
 use Rattle.can_bits.specs.Inside.FrameParts.{ReadsAt}
 use Rattle.can_bits.specs.Shifts.{StandsBy, StandsFor}
-use Rattle.can_bits.proofs.Readables.{readable_front, breaks_not_readable}
-use Rattle.can_bits.proofs.Reader.Past.{past_is_past}
-use Rattle.can_bits.proofs.Reader.Inside.{not_past, wrong_sixth}
+use Rattle.can_levels.proofs.Readables.{readable_front, breaks_not_readable}
+use Rattle.can_levels.proofs.Reader.Inside.{not_past, wrong_sixth}
 use Rattle.can_bits.proofs.Reader.Told.{reads_readable, hides_early}
-use Rattle.can_bits.proofs.DueLemmas.{broke_not_readable, inside_now, past_now, inside_no_part, past_count, over_part}
+use Rattle.can_bits.proofs.DueLemmas.{broke_not_readable, inside_now, inside_no_part, past_count}
+use Rattle.can_levels.proofs.LineEnds.{over_part}
 
 -- a reader with a fault isn't there
 pub right_no_fault : (s : Shift) (l : List Level) (x : Level) (w : ShiftFault) → s.wrong ≡ Some w → StandsFor s l →
@@ -27,18 +26,6 @@ pub right_no_fault : (s : Shift) (l : List Level) (x : Level) (w : ShiftFault) �
 right_no_fault s l x w is h right =
     broke_not_readable s l w (subst (λ (o : Option ShiftFault). StandsBy o s l) is h)
     (readable_front l (x ∷ []) right)
-
--- nor one past the stuffed part
-pub right_not_past : (s : Shift) (l : List Level) (x : Level) (n : ℕ) → s.wrong ≡ None → s.frame_part ≡ FixedForm n →
-    StandsFor s l → IsRightInside l x → ⊥
-right_not_past s l x n none at h right = right.inside.before_end (past_is_past n l (past_now s l n none at h))
-
--- nor one that waits for SOF
-pub right_not_first : (s : Shift) (l : List Level) (x : Level) → s.wrong ≡ None → s.frame_part ≡ Stuffed →
-    StandsFor s l → s.count ≡ 0 → IsRightInside l x → ⊥
-right_not_first s l x none at h zero right =
-    let count = (inside_now s l none at h).count in
-    right.inside.begun (nil_from_length l (sym count ∙ zero))
 
 -- and a sixth equal level isn't right
 pub right_differs : (s : Shift) (l : List Level) (x : Level) → s.wrong ≡ None → s.frame_part ≡ Stuffed →

@@ -2,16 +2,17 @@
 use Rattle.std.proofs.Common.{◌≡◌, ◌≢◌, ◌+◌, ℕ, List, [], ◌∷◌, ◌++◌, replicate, refl, sym, ◌∙◌, arith, append_assoc}
 use Rattle.std.proofs.lemmas.List.{same_from_push}
 use Rattle.can_frame.specs.Frame.{FrameValue}
-use Rattle.can_bits.specs.declared.level.Level.{Level}
-use Rattle.can_bits.specs.declared.level.Level.TheVariants.{Dominant, Recessive}
-use Rattle.can_bits.specs.declared.line_fault.LineFault.TheVariants.{Form}
+use Rattle.can_levels.specs.declared.level.Level.{Level}
+use Rattle.can_levels.specs.declared.level.Level.TheVariants.{Dominant, Recessive}
+use Rattle.can_levels.specs.declared.line_fault.LineFault.TheVariants.{Form}
 use Rattle.can_bits.specs.declared.body_word.BodyWord.{BodyWord}
-use Rattle.can_bits.specs.Line.{tail}
-use Rattle.can_bits.specs.Streaming.{IsReadable, IsLineButFor, IsRightPast}
+use Rattle.can_levels.specs.Line.{tail}
+use Rattle.can_levels.specs.Streaming.{IsReadable, IsLineButFor, IsRightPast}
 use Rattle.can_bits.specs.Inside.FrameParts.{IsPast}
-use Rattle.can_bits.proofs.Readables.{breaks_not_readable}
+use Rattle.can_levels.proofs.Readables.{breaks_not_readable}
 use Rattle.can_bits.proofs.Reader.Past.{past_is_past, past_readable, past_form, past_recessive, past_but_for}
-use Rattle.can_bits.proofs.DueLemmas.{past_count, over_part, sixth_part}
+use Rattle.can_bits.proofs.DueLemmas.{past_count, sixth_part}
+use Rattle.can_levels.proofs.LineEnds.{over_part}
 
 -- a level that was taken there, and wasn't the last one, was right
 pub right_past_by : {g : BodyWord} {came : ℕ} (n : ℕ) (l : List Level) (x : Level) → IsPast n g came l → n ≢ 9 →

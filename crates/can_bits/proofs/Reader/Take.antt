@@ -4,26 +4,26 @@ use Rattle.std.proofs.Common.{length, reverse, take, refl, ap, sym, subst, ◌�
 use Rattle.std.proofs.lemmas.Bool.{cases_lt, cases_eq}
 use Rattle.std.proofs.lemmas.List.{append-nil, length-append, length-reverse, reverse-reverse, length-take-le}
 use Rattle.can_frame.specs.Frame.{FrameValue}
-use Rattle.can_bits.specs.declared.level.Level.{Level}
-use Rattle.can_bits.specs.declared.level.Level.TheVariants.{Dominant, Recessive}
+use Rattle.can_levels.specs.declared.level.Level.{Level}
+use Rattle.can_levels.specs.declared.level.Level.TheVariants.{Dominant, Recessive}
 use Rattle.can_bits.specs.declared.body_word.BodyWord.{BodyWord}
-use Rattle.can_bits.specs.Fields.{says_count}
-use Rattle.can_bits.specs.Line.{StuffedPart, tail}
-use Rattle.can_bits.specs.Spelling.{Spells}
-use Rattle.can_bits.specs.Streaming.{IsReadable, ShowsFrame}
+use Rattle.can_levels.specs.Fields.{says_count}
+use Rattle.can_levels.specs.Line.{StuffedPart, tail}
+use Rattle.can_levels.specs.Spelling.{Spells}
+use Rattle.can_levels.specs.Streaming.{IsReadable, ShowsFrame}
 use Rattle.can_bits.specs.Inside.Gathering.{Gathers}
-use Rattle.can_bits.specs.Inside.PartSoFar.{EndsInRun, IsPartSoFar, BeginsPart}
+use Rattle.can_levels.specs.PartSoFar.{EndsInRun, IsPartSoFar, BeginsPart}
 use Rattle.can_bits.specs.Inside.FrameParts.{IsInside, IsPast}
-use Rattle.can_bits.specs.Inside.PartSoFar.EndsInRun.{longer, other}
+use Rattle.can_levels.specs.PartSoFar.EndsInRun.{longer, other}
 use Rattle.lemmas.proofs.Lists.{reverse-push, fronts, append-cancel}
-use Rattle.can_bits.proofs.Runs.{run, run-same, run-other, run_one_more, IsShort}
-use Rattle.can_bits.proofs.Stuffs.{unstuffed, unstuffed-kept, unstuffed-dropped, run-leads}
-use Rattle.can_bits.proofs.Parts.{plain, part_of, part_to}
-use Rattle.can_bits.proofs.Whole.Decoding.{decoded}
-use Rattle.can_bits.proofs.Going.{inside_open}
-use Rattle.can_bits.proofs.Whole.Steps.{Holds, Holds-next, says_count-most}
-use Rattle.can_bits.proofs.Reader.Inside.{holds_by, before_by, goes_by, not_past, so_far_by}
-use Rattle.can_bits.proofs.Readables.{open_readable}
+use Rattle.can_levels.proofs.Runs.{run, run-same, run-other, run_one_more, IsShort}
+use Rattle.can_levels.proofs.Stuffs.{unstuffed, unstuffed-kept, unstuffed-dropped, run-leads}
+use Rattle.can_levels.proofs.Parts.{plain, part_of, part_to}
+use Rattle.can_levels.proofs.Whole.Decoding.{decoded}
+use Rattle.can_levels.proofs.Going.{inside_open}
+use Rattle.can_levels.proofs.Whole.Steps.{Holds, Holds-next, says_count-most}
+use Rattle.can_levels.proofs.Reader.Inside.{holds_by, before_by, goes_by, not_past, so_far_by}
+use Rattle.can_levels.proofs.Readables.{open_readable}
 
 -- two levels are equal or not
 pub levels_equal : (x y : Level) → (x ≡ y) ⊎ (x ≢ y)

@@ -3,15 +3,15 @@ use Rattle.std.proofs.Common.{◌≡◌, ◌≢◌, ◌+◌, ◌%◌, ◌<◌, �
 use Rattle.std.proofs.Common.{length, reverse, inl, inr, refl, sym, subst, arith, ap}
 use Rattle.std.proofs.lemmas.Bool.{cases_eq}
 use Rattle.std.proofs.lemmas.List.{length_push}
-use Rattle.can_bits.specs.declared.level.Level.{Level}
-use Rattle.can_bits.specs.declared.level.Level.TheVariants.{Dominant}
+use Rattle.can_levels.specs.declared.level.Level.{Level}
+use Rattle.can_levels.specs.declared.level.Level.TheVariants.{Dominant}
 use Rattle.can_bits.specs.declared.body_word.BodyWord.{BodyWord}
 use Rattle.can_bits.specs.declared.shift.Shift.{Shift}
 use Rattle.can_bits.specs.Inside.Gathering.{Gathers}
-use Rattle.can_bits.specs.Inside.PartSoFar.{IsPartSoFar}
+use Rattle.can_levels.specs.PartSoFar.{IsPartSoFar}
 use Rattle.can_bits.specs.Inside.FrameParts.{IsInside}
-use Rattle.can_bits.proofs.Whole.Steps.{room_left}
-use Rattle.can_bits.proofs.Reader.Inside.{holds_by, before_by}
+use Rattle.can_levels.proofs.Whole.Steps.{room_left}
+use Rattle.can_levels.proofs.Reader.Inside.{holds_by, before_by}
 use Rattle.can_bits.proofs.Reader.Take.{count_small, so_far_next}
 
 -- the levels with one more, and what is gathered of them

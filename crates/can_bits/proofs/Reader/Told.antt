@@ -2,26 +2,28 @@
 use Rattle.std.proofs.Common.{◌≡◌, ◌⊎◌, inl, inr, ◌↔◌, IsTrue, ℕ, Bool, true, false, Option, Some, None}
 use Rattle.std.proofs.Common.{List, [], ◌∷◌, ◌++◌, take, refl, ap, sym, subst, ◌∙◌, arith, append_assoc}
 use Rattle.std.proofs.lemmas.List.{append-nil}
-use Rattle.can_bits.specs.declared.level.Level.{Level}
+use Rattle.can_levels.specs.declared.level.Level.{Level}
 use Rattle.can_bits.specs.declared.frame_part.FramePart.{FramePart}
 use Rattle.can_bits.specs.declared.frame_part.FramePart.TheVariants.{Stuffed, FixedForm}
 use Rattle.can_bits.specs.declared.body_word.BodyWord.{BodyWord}
 use Rattle.can_bits.specs.declared.shift.Shift.{Shift}
-use Rattle.can_bits.specs.declared.shift_event.ShiftEvent.{ShiftEvent}
-use Rattle.can_bits.specs.declared.shift_fault.ShiftFault.{ShiftFault}
-use Rattle.can_bits.specs.Check.{Crc}
-use Rattle.can_bits.specs.Line.{StuffedPart, tail}
-use Rattle.can_bits.specs.Reading.{IsPastPart}
+use Rattle.can_levels.specs.declared.shift_event.ShiftEvent.{ShiftEvent}
+use Rattle.can_levels.specs.declared.shift_fault.ShiftFault.{ShiftFault}
+use Rattle.can_levels.specs.Check.{Crc}
+use Rattle.can_levels.specs.Line.{StuffedPart, tail}
+use Rattle.can_levels.specs.Reading.{IsPastPart}
 use Rattle.can_bits.specs.Inside.Gathering.{SaysWhetherRight}
-use Rattle.can_bits.specs.Segments.{IsNext}
-use Rattle.can_bits.specs.Streaming.{IsReadable, BreaksWith, ShowsFrame, IsEventOf, Tells, TellsCheck}
+use Rattle.can_levels.specs.Segments.{IsNext}
+use Rattle.can_levels.specs.Streaming.{IsReadable, BreaksWith, ShowsFrame, IsEventOf, Tells, TellsCheck}
 use Rattle.can_bits.specs.Inside.FrameParts.{IsInside, IsPast, ReadsAt}
-use Rattle.can_bits.specs.Shifts.{Broke, StandsBy, JudgesAt, fault_event}
+use Rattle.can_bits.specs.Shifts.{Broke, StandsBy}
+use Rattle.can_levels.specs.Judgements.{JudgesAt, fault_event}
 use Rattle.lemmas.proofs.Lists.{fronts, append-cancel, cases_list}
-use Rattle.can_bits.proofs.Ending.{same_part, same_spelling}
-use Rattle.can_bits.proofs.Readables.{readable_front, part_readable, breaks_not_readable, wrong_shows_none, first_once}
+use Rattle.can_levels.proofs.Ending.{same_part, same_spelling}
+use Rattle.can_levels.proofs.Readables.{readable_front, part_readable, breaks_not_readable, wrong_shows_none}
+use Rattle.can_levels.proofs.Readables.{first_once}
 use Rattle.can_bits.proofs.Reader.Past.{past_readable, past_hides, past_with}
-use Rattle.can_bits.proofs.Reader.Inside.{not_past}
+use Rattle.can_levels.proofs.Reader.Inside.{not_past}
 use Rattle.can_bits.proofs.Reader.Take.{inside_readable, inside_hides}
 
 -- what a reader without a fault stands for is right so far
@@ -55,17 +57,6 @@ wrong_event l x w place broke = record {
 pub broke_here : (s : Shift) (l : List Level) (x : Level) (w : ShiftFault) → ReadsAt s.frame_part s l →
     IsEventOf l x (fault_event w) → Broke w s (l ++ x ∷ [])
 broke_here s l x w reads event = record { front = l; wrong = x; later = []; whole = refl; reads = reads; event = event }
-
--- and stays so
-pub broke_more : (s : Shift) (l : List Level) (x : Level) (w : ShiftFault) → Broke w s l → Broke w s (l ++ x ∷ [])
-broke_more s l x w h = record {
-  front = h.front;
-  wrong = h.wrong;
-  later = h.later ++ x ∷ [];
-  whole = ap (λ m. m ++ x ∷ []) h.whole ∙ append_assoc h.front (h.wrong ∷ h.later) (x ∷ []);
-  reads = h.reads;
-  event = h.event;
-}
 
 -- the event of a level after right ones
 pub tells_right : (l : List Level) (x : Level) (event : ShiftEvent) → IsReadable l → IsEventOf l x event →

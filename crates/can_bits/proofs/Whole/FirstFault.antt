@@ -3,24 +3,24 @@ use Rattle.std.proofs.Common.{◌≡◌, inl, inr, ℕ, List, [], ◌∷◌, ◌
 use Rattle.std.proofs.Common.{sym, subst, ◌∙◌, arith, append_assoc}
 use Rattle.std.proofs.lemmas.List.{same_from_push}
 use Rattle.can_frame.specs.Frame.{FrameValue}
-use Rattle.can_bits.specs.declared.level.Level.{Level}
-use Rattle.can_bits.specs.declared.level.Level.TheVariants.{Recessive}
+use Rattle.can_levels.specs.declared.level.Level.{Level}
+use Rattle.can_levels.specs.declared.level.Level.TheVariants.{Recessive}
 use Rattle.can_bits.specs.declared.body_word.BodyWord.{BodyWord}
-use Rattle.can_bits.specs.declared.line_fault.LineFault.{LineFault}
-use Rattle.can_bits.specs.declared.line_fault.LineFault.TheVariants.{Stuff, Form, Crc as CheckFault}
-use Rattle.can_bits.specs.declared.line_fault.LineFault.TheVariants.{NoAck, Truncated, Trailing}
-use Rattle.can_bits.specs.Check.{Crc}
-use Rattle.can_bits.specs.Line.{Line, tail}
-use Rattle.can_bits.specs.Reading.{IsReceived, Begins, IsPastPart, IsFaultless, IsOpen}
-use Rattle.can_bits.specs.Reading.{HasWrongCheck, IsNotAcknowledged, IsFirstFault}
-use Rattle.can_bits.specs.Streaming.{IsOver, IsLineButFor, BreaksWith}
+use Rattle.can_levels.specs.declared.line_fault.LineFault.{LineFault}
+use Rattle.can_levels.specs.declared.line_fault.LineFault.TheVariants.{Stuff, Form, Crc as CheckFault}
+use Rattle.can_levels.specs.declared.line_fault.LineFault.TheVariants.{NoAck, Truncated, Trailing}
+use Rattle.can_levels.specs.Check.{Crc}
+use Rattle.can_levels.specs.Line.{Line, tail}
+use Rattle.can_levels.specs.Reading.{IsReceived, Begins, IsPastPart, IsFaultless, IsOpen}
+use Rattle.can_levels.specs.Reading.{HasWrongCheck, IsNotAcknowledged, IsFirstFault}
+use Rattle.can_levels.specs.Streaming.{IsOver, IsLineButFor, BreaksWith}
 use Rattle.can_bits.specs.Inside.FrameParts.{IsPast}
 use Rattle.lemmas.proofs.Lists.{cases_list}
-use Rattle.can_bits.proofs.Ending.{line_at}
+use Rattle.can_levels.proofs.Ending.{line_at}
 use Rattle.can_bits.proofs.Reader.Past.{past_with}
-use Rattle.can_bits.proofs.Readables.{wrong_whole, faultless_readable, readable_but}
-use Rattle.can_bits.proofs.DueLemmas.{over_part}
-use Rattle.can_bits.proofs.Whole.Faultless.{faultless_check, faultless_ack}
+use Rattle.can_levels.proofs.Readables.{wrong_whole, faultless_readable, readable_but}
+use Rattle.can_levels.proofs.LineEnds.{over_part}
+use Rattle.can_levels.proofs.Whole.Faultless.{faultless_check, faultless_ack}
 
 -- where a line is over its stuffed part has come
 pub over_past : (l : List Level) → IsOver l → IsPastPart l

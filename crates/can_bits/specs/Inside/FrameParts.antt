@@ -1,15 +1,15 @@
 -- What the fields of a reader without a fault stand for.
 use Rattle.std.specs.Prelude.{◌≡◌, ◌≤◌, ◌==◌, ℕ, Bool, false, List, ◌++◌, length, take}
 use Rattle.can_frame.specs.Frame.{FrameValue}
-use Rattle.can_bits.specs.declared.level.Level.{Level}
+use Rattle.can_levels.specs.declared.level.Level.{Level}
 use Rattle.can_bits.specs.declared.frame_part.FramePart.{FramePart}
 use Rattle.can_bits.specs.declared.frame_part.FramePart.TheVariants.{Stuffed, FixedForm}
 use Rattle.can_bits.specs.declared.body_word.BodyWord.{BodyWord}
 use Rattle.can_bits.specs.declared.shift.Shift.{Shift}
-use Rattle.can_bits.specs.Check.{Crc}
-use Rattle.can_bits.specs.Line.{StuffedPart, tail}
+use Rattle.can_levels.specs.Check.{Crc}
+use Rattle.can_levels.specs.Line.{StuffedPart, tail}
 use Rattle.can_bits.specs.Inside.Gathering.{Gathers}
-use Rattle.can_bits.specs.Inside.PartSoFar.{BeginsPart}
+use Rattle.can_levels.specs.PartSoFar.{BeginsPart}
 
 -- a reader with these fields is in a stuffed part
 pub record IsInside (g : BodyWord) (came : ℕ) (last : Level) (run : ℕ) (l : List Level) : Type 0 where

@@ -1,11 +1,11 @@
 -- What is kept of a body and its CRC sequence while their levels come.
 use Rattle.std.specs.Prelude.{◌≡◌, ◌+◌, ◌*◌, ◌<◌, ◌^◌, ℕ, Bool, true, false, nat_lt, if◌then◌else◌, List, length}
-use Rattle.can_bits.specs.declared.level.Level.{Level}
+use Rattle.can_levels.specs.declared.level.Level.{Level}
 use Rattle.can_bits.specs.declared.body_word.BodyWord.{BodyWord}
-use Rattle.can_bits.specs.Digits.{value}
-use Rattle.can_bits.specs.Check.{IsMultiple, Crc}
-use Rattle.can_bits.specs.Fields.{says_count}
-use Rattle.can_bits.specs.Inside.Data.{data_place}
+use Rattle.can_levels.specs.Digits.{value}
+use Rattle.can_levels.specs.Check.{IsMultiple, Crc}
+use Rattle.can_levels.specs.Fields.{says_count}
+use Rattle.can_levels.specs.DataBits.{data_place}
 use Rattle.can_bits.specs.Packing.{Packs}
 
 -- at how many levels more is known: at the end of a standard frame's DLC, where the format is known; at the end of an

@@ -2,19 +2,19 @@
 
 use super::BodyWord;
 use crate::layout::{CRC_LEVELS, IDE_PLACE, MOST_BYTES, data_place, rtr_place};
-use crate::level::Level;
 use arrayvec::ArrayVec;
 use can_frame::{DATA_BYTES, Frame};
+use can_levels::Level;
 
 impl BodyWord {
     ghost use Rattle.std.specs.Prelude.{◌≡◌, ◌≤◌, ◌<◌, ◌+◌, ◌*◌, ◌^◌, List, length, slice_range, Some, All};
     ghost use Rattle.std.specs.List.{flat_map};
     ghost use Rattle.can_frame.specs.Frame.{FrameValue};
-    ghost use Rattle.can_bits.specs.declared.level.Level.{Level as Bus};
-    ghost use Rattle.can_bits.specs.Digits.{bits, value};
-    ghost use Rattle.can_bits.specs.Fields.{level_at, says_ext, says_rtr, says_dlc, says_count, dlc_place};
-    ghost use Rattle.can_bits.specs.Inside.Data.{says_id, says_bytes, data_place, data_levels, IsWhole};
-    ghost use Rattle.can_bits.specs.Spelling.{Spells};
+    ghost use Rattle.can_levels.specs.declared.level.Level.{Level as Bus};
+    ghost use Rattle.can_levels.specs.Digits.{bits, value};
+    ghost use Rattle.can_levels.specs.Fields.{level_at, says_ext, says_rtr, says_dlc, says_count, dlc_place};
+    ghost use Rattle.can_levels.specs.DataBits.{says_id, says_bytes, data_place, data_levels, IsWhole};
+    ghost use Rattle.can_levels.specs.Spelling.{Spells};
     ghost use Rattle.can_bits.specs.Packing.{Packs};
     ghost use Rattle.can_bits.specs.Inside.Gathering.{Gathers};
 

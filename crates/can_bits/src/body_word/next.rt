@@ -3,22 +3,21 @@
 use super::BodyWord;
 use crate::index::index_of;
 use crate::layout::rtr_place;
-use crate::level::Level;
 use crate::place::segment_of;
-use crate::segment::Segment;
 use crate::sent_body::SentBody;
+use can_levels::{Level, Segment};
 
 impl BodyWord {
     ghost use Rattle.std.specs.Prelude.{◌≡◌, ◌≤◌, ◌<◌, ◌+◌, ◌-◌, ◌/◌, ◌%◌, ◌^◌, ◌==◌, ◌⊎◌, ◌&&◌, ◌∷◌, ◌++◌};
     ghost use Rattle.std.specs.Prelude.{ℕ, List, length, Some, None, nat_lt, nat_le, if◌then◌else◌};
-    ghost use Rattle.can_bits.specs.declared.level.Level.{Level as Bus};
-    ghost use Rattle.can_bits.specs.Check.{Crc};
-    ghost use Rattle.can_bits.specs.Body.{sent_body};
-    ghost use Rattle.can_bits.specs.Fields.{rtr_place};
-    ghost use Rattle.can_bits.specs.FramePlaces.{index_at};
-    ghost use Rattle.can_bits.specs.Segments.{segment_at};
+    ghost use Rattle.can_levels.specs.declared.level.Level.{Level as Bus};
+    ghost use Rattle.can_levels.specs.Check.{Crc};
+    ghost use Rattle.can_levels.specs.Body.{sent_body};
+    ghost use Rattle.can_levels.specs.Fields.{rtr_place};
+    ghost use Rattle.can_levels.specs.FramePlaces.{index_at};
+    ghost use Rattle.can_levels.specs.Segments.{segment_at};
     ghost use Rattle.can_frame.specs.Frame.{FrameValue};
-    ghost use Rattle.can_bits.specs.Digits.{level_of};
+    ghost use Rattle.can_levels.specs.Digits.{level_of};
     ghost use Rattle.can_bits.specs.Packing.{IsSentBody};
     ghost use Rattle.can_bits.specs.Sending.{AgreeFor, BothHave, or_crc, packed_level, plain_end};
     ghost use Rattle.can_bits.specs.Inside.Gathering.{Gathers};

@@ -1,15 +1,14 @@
 //! A reader of a line that has to be acknowledged.
 
 use super::{LINE_END, Shift};
-use crate::level::Level;
-use crate::line_fault::LineFault;
 use can_frame::Frame;
+use can_levels::{Level, LineFault};
 
 impl Shift {
     ghost use Rattle.std.specs.Prelude.{◌∷◌, ◌++◌, [], List, OnOk, IfErr};
-    ghost use Rattle.can_bits.specs.declared.level.Level.{Level as Bus};
-    ghost use Rattle.can_bits.specs.Reading.{IsFaultless, IsFirstFault};
-    ghost use Rattle.can_bits.specs.Streaming.{IsReadable, ShowsFrameBut};
+    ghost use Rattle.can_levels.specs.declared.level.Level.{Level as Bus};
+    ghost use Rattle.can_levels.specs.Reading.{IsFaultless, IsFirstFault};
+    ghost use Rattle.can_levels.specs.Streaming.{IsReadable, ShowsFrameBut};
     ghost use Rattle.can_bits.specs.Shifts.{StandsFor};
 
     /// Takes the next level of a line that has to be acknowledged, or answers the first fault of the levels: what

@@ -2,23 +2,21 @@
 
 use super::{RUN, Shift};
 use crate::frame_part::FramePart;
-use crate::level::Level;
-use crate::line_fault::LineFault;
 use crate::run::run_after;
-use crate::segment::Segment;
-use crate::shift_fault::ShiftFault;
+use can_levels::{Level, LineFault, Segment, ShiftFault};
 
 impl Shift {
     ghost use Rattle.std.specs.Prelude.{◌≡◌, ◌≢◌, ◌⊎◌, ◌<◌, ◌≤◌, ◌==◌, suc, length, ◌∷◌, ◌++◌, [], List, None, IfSome};
-    ghost use Rattle.can_bits.specs.declared.level.Level.{Level as Bus};
-    ghost use Rattle.can_bits.specs.Streaming.{BreaksWith};
-    ghost use Rattle.can_bits.specs.Segments.{IsNext};
-    ghost use Rattle.can_bits.specs.Inside.PartSoFar.{IsPartSoFar};
+    ghost use Rattle.can_levels.specs.declared.level.Level.{Level as Bus};
+    ghost use Rattle.can_levels.specs.Streaming.{BreaksWith};
+    ghost use Rattle.can_levels.specs.Segments.{IsNext};
+    ghost use Rattle.can_levels.specs.PartSoFar.{IsPartSoFar};
     ghost use Rattle.can_bits.specs.Inside.FrameParts.{ReadsAt};
-    ghost use Rattle.can_bits.specs.Shifts.{StandsFor, JudgesAt};
+    ghost use Rattle.can_bits.specs.Shifts.{StandsFor};
+    ghost use Rattle.can_levels.specs.Judgements.{JudgesAt};
     ghost use Rattle.can_bits.specs.Inside.Gathering.{Gathers};
     ghost use Rattle.can_bits.specs.Sending.{place_of};
-    ghost use Rattle.can_bits.specs.Fields.{says_count};
+    ghost use Rattle.can_levels.specs.Fields.{says_count};
 
     /// Takes a level of the stuffed part.
     pub(super) fn advance_inside(&mut self, level: Level) -> Option<ShiftFault>

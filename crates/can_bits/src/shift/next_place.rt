@@ -2,16 +2,16 @@
 
 use super::{RUN, Shift};
 use crate::frame_part::FramePart;
-use crate::frame_place::FramePlace;
 use crate::index::place_after;
+use can_levels::FramePlace;
 
 impl Shift {
     ghost use Rattle.std.specs.Prelude.{List};
-    ghost use Rattle.can_bits.specs.declared.level.Level.{Level as Bus};
-    ghost use Rattle.can_bits.specs.FramePlaces.{IsNextPlace};
+    ghost use Rattle.can_levels.specs.declared.level.Level.{Level as Bus};
+    ghost use Rattle.can_levels.specs.FramePlaces.{IsNextPlace};
     ghost use Rattle.can_bits.specs.Inside.FrameParts.{ReadsAt};
     ghost use Rattle.can_bits.specs.Shifts.{StandsFor};
-    ghost use Rattle.can_bits.specs.Streaming.{IsReadable};
+    ghost use Rattle.can_levels.specs.Streaming.{IsReadable};
 
     /// The place of the next level.
     pub fn next_place(&self) -> FramePlace

@@ -2,17 +2,16 @@
 
 use super::{LINE_END, Shift};
 use crate::frame_part::FramePart;
-use crate::level::Level;
-use crate::line_fault::LineFault;
 use crate::place::segment_after;
-use crate::shift_fault::ShiftFault;
+use can_levels::{Level, LineFault, ShiftFault};
 
 impl Shift {
     ghost use Rattle.std.specs.Prelude.{◌≡◌, ◌+◌, ◌∷◌, ◌++◌, [], List, None, IfSome};
-    ghost use Rattle.can_bits.specs.declared.level.Level.{Level as Bus};
-    ghost use Rattle.can_bits.specs.Streaming.{BreaksWith};
+    ghost use Rattle.can_levels.specs.declared.level.Level.{Level as Bus};
+    ghost use Rattle.can_levels.specs.Streaming.{BreaksWith};
     ghost use Rattle.can_bits.specs.Inside.FrameParts.{ReadsAt, IsPast};
-    ghost use Rattle.can_bits.specs.Shifts.{StandsFor, JudgesAt};
+    ghost use Rattle.can_bits.specs.Shifts.{StandsFor};
+    ghost use Rattle.can_levels.specs.Judgements.{JudgesAt};
 
     /// Takes a level after the stuffed part, of which n have come before.
     pub(super) fn advance_past(&mut self, n: u8, level: Level) -> Option<ShiftFault>

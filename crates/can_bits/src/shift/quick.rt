@@ -2,13 +2,13 @@
 
 use super::{RUN, Shift};
 use crate::frame_part::FramePart;
-use crate::level::Level;
+use can_levels::Level;
 
 impl Shift {
     ghost use Rattle.std.specs.Prelude.{◌≡◌, ◌≢◌, ◌≤◌, ◌↔◌, ◌∷◌, ◌++◌, [], List, IsTrue, None, suc, true, false};
-    ghost use Rattle.can_bits.specs.declared.level.Level.{Level as Bus};
-    ghost use Rattle.can_bits.specs.Streaming.{IsReadable, IsRightInside, ShowsFrame, IsOver};
-    ghost use Rattle.can_bits.specs.Acknowledging.{IsAckDue};
+    ghost use Rattle.can_levels.specs.declared.level.Level.{Level as Bus};
+    ghost use Rattle.can_levels.specs.Streaming.{IsReadable, IsRightInside, ShowsFrame, IsOver};
+    ghost use Rattle.can_levels.specs.Acknowledging.{IsAckDue};
     ghost use Rattle.can_bits.specs.Sending.{place_of};
     ghost use Rattle.can_bits.specs.Shifts.{StandsFor};
 

@@ -2,13 +2,13 @@
 
 use super::{LINE_END, SIXTH_END_BIT, Shift};
 use crate::frame_part::FramePart;
-use crate::level::Level;
+use can_levels::Level;
 
 impl Shift {
     ghost use Rattle.std.specs.Prelude.{◌≡◌, ◌↔◌, ◌∷◌, ◌++◌, [], List, IsTrue, None, true, false};
     ghost use Rattle.can_frame.specs.Frame.{FrameValue};
-    ghost use Rattle.can_bits.specs.declared.level.Level.{Level as Bus};
-    ghost use Rattle.can_bits.specs.Streaming.{IsReadable, IsRightPast, IsLineButFor};
+    ghost use Rattle.can_levels.specs.declared.level.Level.{Level as Bus};
+    ghost use Rattle.can_levels.specs.Streaming.{IsReadable, IsRightPast, IsLineButFor};
     ghost use Rattle.can_bits.specs.Inside.FrameParts.{ReadsAt};
     ghost use Rattle.can_bits.specs.Shifts.{StandsFor};
 

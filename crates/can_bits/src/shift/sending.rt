@@ -2,9 +2,9 @@
 
 use super::{RUN, Shift};
 use crate::frame_part::FramePart;
-use crate::level::Level;
 use crate::run::run_after;
 use crate::sent_body::SentBody;
+use can_levels::Level;
 
 /// The highest of 64 binary digits.
 const HIGHEST: u64 = 1 << 63;
@@ -12,14 +12,14 @@ const HIGHEST: u64 = 1 << 63;
 impl Shift {
     ghost use Rattle.std.specs.Prelude.{◌≡◌, ◌≢◌, ◌≤◌, ◌<◌, ◌+◌, ◌⊎◌, ◌∷◌, ◌++◌, List, length, take, drop, slice_range};
     ghost use Rattle.std.specs.Prelude.{true, None, ℕ};
-    ghost use Rattle.can_bits.specs.declared.level.Level.{Level as Bus};
+    ghost use Rattle.can_levels.specs.declared.level.Level.{Level as Bus};
     ghost use Rattle.can_frame.specs.Frame.{FrameValue};
-    ghost use Rattle.can_bits.specs.Streaming.{IsReadable};
-    ghost use Rattle.can_bits.specs.Body.{sent_body};
-    ghost use Rattle.can_bits.specs.Check.{Crc};
-    ghost use Rattle.can_bits.specs.Line.{StuffedPart, tail};
+    ghost use Rattle.can_levels.specs.Streaming.{IsReadable};
+    ghost use Rattle.can_levels.specs.Body.{sent_body};
+    ghost use Rattle.can_levels.specs.Check.{Crc};
+    ghost use Rattle.can_levels.specs.Line.{StuffedPart, tail};
     ghost use Rattle.can_bits.specs.Packing.{IsSentBody};
-    ghost use Rattle.can_bits.specs.Places.{place_code, is_early_stuff};
+    ghost use Rattle.can_levels.specs.Places.{place_code, is_early_stuff};
     ghost use Rattle.can_bits.specs.Sending.{AgreeFor, BothHave, IsPastSof, SendsAlong, next_level, place_of};
     ghost use Rattle.can_bits.specs.Sending.{plain_end};
     ghost use Rattle.can_bits.specs.Shifts.{StandsFor};

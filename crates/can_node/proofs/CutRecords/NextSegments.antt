@@ -3,41 +3,42 @@ use Rattle.std.proofs.Common.{◌≡◌, ◌⊎◌, ◌-◌, inl, inr, Bool, tru
 use Rattle.std.proofs.Common.{length, reverse, nat_le, refl, sym, ap, ◌∙◌, subst, append_assoc, append-nil}
 use Rattle.std.proofs.lemmas.Bool.{cases_Bool, le-leb, leb-true}
 use Rattle.std.proofs.lemmas.List.{reverse-reverse}
-use Rattle.can_bits.specs.declared.level.Level.{Level}
-use Rattle.can_bits.specs.declared.level.Level.TheVariants.{Dominant, Recessive}
-use Rattle.can_bits.specs.declared.segment.Segment.{Segment}
-use Rattle.can_bits.specs.declared.segment.Segment.TheVariants.{EndOfFrame}
-use Rattle.can_bits.specs.Line.{StuffedPart, tail}
-use Rattle.can_bits.specs.Reading.{Begins}
-use Rattle.can_bits.specs.Segments.{IsNext, segment_after, segment_at}
-use Rattle.can_bits.specs.Segments.IsNext.{bit, stuff_bit, after_part}
-use Rattle.can_bits.specs.Stuffing.{EndsInEqual, IsUnstuffed}
-use Rattle.can_bits.proofs.Ending.{begins_front}
-use Rattle.can_bits.proofs.Runs.{run, ends_in_run, run_ends}
-use Rattle.can_bits.proofs.Stuffs.{unstuffed, is_unstuffed}
+use Rattle.can_levels.specs.declared.level.Level.{Level}
+use Rattle.can_levels.specs.declared.level.Level.TheVariants.{Dominant, Recessive}
+use Rattle.can_levels.specs.declared.segment.Segment.{Segment}
+use Rattle.can_levels.specs.declared.segment.Segment.TheVariants.{EndOfFrame}
+use Rattle.can_levels.specs.Line.{StuffedPart, tail}
+use Rattle.can_levels.specs.Reading.{Begins}
+use Rattle.can_levels.specs.Segments.{IsNext, segment_after, segment_at}
+use Rattle.can_levels.specs.Segments.IsNext.{bit, stuff_bit, after_part}
+use Rattle.can_levels.specs.Stuffing.{EndsInEqual, IsUnstuffed}
+use Rattle.can_levels.proofs.Ending.{begins_front}
+use Rattle.can_levels.proofs.Runs.{run, ends_in_run, run_ends}
+use Rattle.can_levels.proofs.Stuffs.{unstuffed, is_unstuffed}
 use Rattle.can_frame.specs.Frame.{FrameValue}
-use Rattle.can_node.specs.declared.request.Request.{Request}
-use Rattle.can_node.specs.Bits.{Bit, dominant_bit, recessive_bit, seen_of}
-use Rattle.can_node.specs.Context.{ContextValue, fresh}
-use Rattle.can_node.specs.Cut.{IsOpenAt, IsUnfinished}
-use Rattle.can_node.specs.Cut.IsOpenAt.{nothing, begun}
-use Rattle.can_node.specs.Frames.{Receives, Transmits}
-use Rattle.can_node.specs.Frames.Receives.{reception, broken}
-use Rattle.can_node.specs.Frames.Transmits.{sending, failed, lost}
+use Rattle.can_node_rules.specs.declared.request.Request.{Request}
+use Rattle.can_node_rules.specs.Bits.{Bit, dominant_bit, recessive_bit, seen_of}
+use Rattle.can_node_rules.specs.Context.{ContextValue, fresh}
+use Rattle.can_node_rules.specs.Cut.{IsOpenAt, IsUnfinished}
+use Rattle.can_node_rules.specs.Cut.IsOpenAt.{nothing, begun}
+use Rattle.can_node_rules.specs.Frames.{Receives, Transmits}
+use Rattle.can_node_rules.specs.Frames.Receives.{reception, broken}
+use Rattle.can_node_rules.specs.Frames.Transmits.{sending, failed, lost}
 use Rattle.can_node.specs.NextField.{IsInSegment, SegmentAt}
-use Rattle.can_node.specs.Pieces.{Piece, Place}
-use Rattle.can_node.specs.Pieces.Place.{AtReset, AtIntegration, AtIdle, AfterSof, AtLastEofBit, AtFlag, AtDelimiter}
-use Rattle.can_node.specs.Pieces.Place.{AtInterframeSpace}
-use Rattle.can_node.specs.Record.{RecordEntry, bits_in}
-use Rattle.can_node.specs.Table.{Row}
-use Rattle.can_node.specs.Table.Row.{idle, other, own, other_begun, own_begun}
-use Rattle.can_node.proofs.Bits.Seen.{seen-append}
-use Rattle.can_node.proofs.OneCut.Entries.{some_not_none}
-use Rattle.can_node.proofs.Reception.Beginnings.{receives_after_sof}
-use Rattle.can_node.proofs.Reception.Breaking.{past_or_not}
-use Rattle.can_node.proofs.Reception.ReceiverBits.{receiving_readable}
+use Rattle.can_node_rules.specs.Pieces.{Piece, Place}
+use Rattle.can_node_rules.specs.Pieces.Place.{AtReset, AtIntegration, AtIdle, AfterSof, AtLastEofBit, AtFlag}
+use Rattle.can_node_rules.specs.Pieces.Place.{AtDelimiter}
+use Rattle.can_node_rules.specs.Pieces.Place.{AtInterframeSpace}
+use Rattle.can_node_rules.specs.Record.{RecordEntry, bits_in}
+use Rattle.can_node_rules.specs.Table.{Row}
+use Rattle.can_node_rules.specs.Table.Row.{idle, other, own, other_begun, own_begun}
+use Rattle.can_node_rules.proofs.Bits.Seen.{seen-append}
+use Rattle.can_node_rules.proofs.OneCut.Entries.{some_not_none}
+use Rattle.can_node_rules.proofs.Reception.Beginnings.{receives_after_sof}
+use Rattle.can_node_rules.proofs.Reception.Breaking.{past_or_not}
+use Rattle.can_node_rules.proofs.Reception.ReceiverBits.{receiving_readable}
 use Rattle.lemmas.proofs.Lists.{append-cancel, fronts}
-use Rattle.can_node.proofs.Driven.OwnFrames.{before_last}
+use Rattle.can_node_rules.proofs.Driven.OwnFrames.{before_last}
 
 -- ---- the segment of the level after levels with which a line begins
 

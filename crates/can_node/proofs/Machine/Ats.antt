@@ -1,25 +1,27 @@
 -- What a bit makes of each piece, from what the node's functions say of it.
-use Rattle.std.proofs.Common.{◌≡◌, ℕ, Bool, List, [], refl, ap, sym, subst, ◌∙◌, if◌then◌else◌}
-use Rattle.can_bits.specs.declared.level.Level.{Level}
-use Rattle.can_bits.specs.declared.level.Level.TheVariants.{Dominant, Recessive}
+use Rattle.std.proofs.Common.{◌≡◌, ℕ, Bool, List, [], refl, sym, subst, ◌∙◌}
+use Rattle.can_levels.specs.declared.level.Level.{Level}
+use Rattle.can_levels.specs.declared.level.Level.TheVariants.{Dominant, Recessive}
 use Rattle.can_bits.specs.declared.shift.Shift.{Shift}
 use Rattle.can_node.specs.declared.stage.Stage.{Stage}
 use Rattle.can_node.specs.declared.stage.Stage.TheVariants.{Integrating as StageIntegrating}
-use Rattle.can_node.specs.declared.stage.Stage.TheVariants.{BusIdle as StageBusIdle, LastEofBit as StageLastEofBit}
+use Rattle.can_node.specs.declared.stage.Stage.TheVariants.{LastEofBit as StageLastEofBit}
 use Rattle.can_node.specs.declared.stage.Stage.TheVariants.{InFlag as StageInFlag, InDelimiter as StageInDelimiter}
 use Rattle.can_node.specs.declared.stage.Stage.TheVariants.{InInterframeSpace as StageInInterframeSpace}
-use Rattle.can_node.specs.declared.role.Role.TheVariants.{Receiver}
 use Rattle.can_node.specs.declared.after_bit.AfterBit.{AfterBit}
-use Rattle.can_node.specs.Bits.{Bit, recessive_bit, dominant_bit}
-use Rattle.can_node.specs.Context.{ContextValue, owes_suspension, flag_level, level_of_flag}
-use Rattle.can_node.specs.Pieces.{Place}
-use Rattle.can_node.specs.Pieces.Place.{AtIntegration, AtIdle, AtLastEofBit, AtFlag, AtDelimiter, AtInterframeSpace}
-use Rattle.can_node.specs.Table.Row.{last_eof_bit, last_eof_bit_overload}
-use Rattle.can_node.specs.Driving.{Drives}
-use Rattle.can_node.specs.Inside.Standing.{IsKept}
-use Rattle.can_node.specs.Inside.Stages.{At, IsIntegrating, IsInFlag, IsInDominantFlag}
-use Rattle.can_node.specs.Inside.Stages.{IsInPassiveFlag, IsInDelimiter, IsInInterframeSpace}
+use Rattle.can_node_rules.specs.Bits.{Bit, recessive_bit, dominant_bit}
+use Rattle.can_node_rules.specs.Context.{ContextValue, owes_suspension, flag_level}
+use Rattle.can_node_rules.specs.Pieces.{Place}
+use Rattle.can_node_rules.specs.Pieces.Place.{AtIntegration, AtLastEofBit, AtFlag, AtDelimiter}
+use Rattle.can_node_rules.specs.Pieces.Place.{AtInterframeSpace}
+use Rattle.can_node_rules.specs.Table.Row.{last_eof_bit, last_eof_bit_overload}
+use Rattle.can_node_rules.specs.Driving.{Drives}
+use Rattle.can_node_rules.specs.KeptContexts.{IsKept}
+use Rattle.can_node.specs.Stages.{At}
+use Rattle.can_node_rules.specs.UnfinishedPieces.{IsIntegrating, IsInFlag, IsInDominantFlag}
+use Rattle.can_node_rules.specs.UnfinishedPieces.{IsInPassiveFlag, IsInDelimiter, IsInInterframeSpace}
 use Rattle.can_node.specs.Inside.Turns.{IsTurn, after_last_eof}
+use Rattle.can_node_rules.proofs.OneCut.KeptLevels.{level_kept}
 
 -- the stage is this one
 pub at_is : (s : Stage) (stage : Stage) (shift : Shift) (c now : ContextValue) (place : Place) (bits : List Bit) →
@@ -54,22 +56,6 @@ at_integration left run stage shift c now place bits driven seen turn e h drives
     turn_at shift c now place AtIntegration bits driven Recessive seen turn at.0
     (driven_at now place AtIntegration bits driven at.0 drives) (f shift c now bits at.1)
 
--- an idle bus
-pub at_idle : (stage : Stage) (shift new : Shift) (c now : ContextValue) (place : Place) (bits : List Bit)
-    (driven seen : Level) (turn : AfterBit) →
-    stage ≡ StageBusIdle → At stage shift c now place bits → Drives now place bits driven →
-    (now.role ≡ Receiver → Drives now AtIdle [] driven →
-    IsTurn new now now AtIdle [] (record { driven = driven; seen = seen }) turn) →
-    IsTurn new c now place bits (record { driven = driven; seen = seen }) turn
-at_idle stage shift new c now place bits driven seen turn e h drives f =
-    let at = at_is StageBusIdle stage shift c now place bits e h in
-    let P : Place → Type 0 = λ s. IsTurn new c now s bits (record { driven = driven; seen = seen }) turn in
-    let Q : List Bit → Type 0 = λ l. IsTurn new c now AtIdle l (record { driven = driven; seen = seen }) turn in
-    let R : ContextValue → Type 0 = λ d. IsTurn new d now AtIdle [] (record { driven = driven; seen = seen }) turn in
-    let S : List Bit → Type 0 = λ l. Drives now AtIdle l driven in
-    subst P (sym at.0) (subst Q (sym at.1)
-    (subst R (sym at.3) (f at.2 (subst S at.1 (driven_at now place AtIdle bits driven at.0 drives)))))
-
 -- the seventh bit of EOF of a received frame
 last_row : (x : Level) (shift : Shift) (c now : ContextValue) →
     IsTurn shift c now AtLastEofBit [] (recessive_bit x) (after_last_eof x)
@@ -88,12 +74,6 @@ at_last_eof_bit stage shift c now place bits driven seen turn e h drives is =
     turn_at shift c now place AtLastEofBit bits driven Recessive seen turn at.0
     (driven_at now place AtLastEofBit bits driven at.0 drives)
     (subst Q (sym at.1) (subst P (sym is) (last_row seen shift c now)))
-
--- what a context keeps fixes what is driven in a flag
-pub level_kept : (c now : ContextValue) → now.listen ≡ c.listen → now.flag ≡ c.flag → flag_level now ≡ flag_level c
-level_kept c now listen flag =
-    ap (λ t. if t then Recessive else level_of_flag now.flag) listen
-    ∙ ap (λ f. if c.listen then Recessive else level_of_flag f) flag
 
 -- a dominant flag
 pub at_dominant_flag : (n : ℕ) (like level driven seen : Level) (shift : Shift) (c now : ContextValue) (bits : List Bit)

@@ -2,12 +2,12 @@
 use Rattle.std.proofs.Common.{◌≡◌, ◌≢◌, ℕ, Bool, Option, None, List, [], ◌∷◌}
 use Rattle.std.proofs.Common.{◌++◌, refl, ap, sym, subst, ◌∙◌, if◌then◌else◌}
 use Rattle.std.proofs.lemmas.List.{append-nil}
-use Rattle.can_bits.specs.declared.level.Level.{Level}
-use Rattle.can_bits.specs.declared.level.Level.TheVariants.{Dominant, Recessive}
+use Rattle.can_levels.specs.declared.level.Level.{Level}
+use Rattle.can_levels.specs.declared.level.Level.TheVariants.{Dominant, Recessive}
 use Rattle.can_bits.specs.declared.shift.Shift.{Shift}
-use Rattle.can_node.specs.declared.role.Role.{Role}
-use Rattle.can_node.specs.declared.role.Role.TheVariants.{Transmitter, Receiver}
-use Rattle.can_node.specs.declared.request.Request.{Request}
+use Rattle.can_node_rules.specs.declared.role.Role.{Role}
+use Rattle.can_node_rules.specs.declared.role.Role.TheVariants.{Transmitter, Receiver}
+use Rattle.can_node_rules.specs.declared.request.Request.{Request}
 use Rattle.can_node.specs.declared.stage.Stage.{Stage}
 use Rattle.can_node.specs.declared.stage.Stage.TheVariants.{InReset as StageInReset, Integrating as StageIntegrating}
 use Rattle.can_node.specs.declared.stage.Stage.TheVariants.{BusIdle as StageBusIdle, InFrame as StageInFrame}
@@ -15,25 +15,26 @@ use Rattle.can_node.specs.declared.stage.Stage.TheVariants.{LastEofBit as StageL
 use Rattle.can_node.specs.declared.stage.Stage.TheVariants.{InDelimiter as StageInDelimiter}
 use Rattle.can_node.specs.declared.stage.Stage.TheVariants.{InInterframeSpace as StageInInterframeSpace}
 use Rattle.can_node.specs.declared.node.Node.{Node}
-use Rattle.can_node.specs.Bits.{Bit}
-use Rattle.can_node.specs.Context.{ContextValue, fresh, is_transmitter, flag_level}
-use Rattle.can_node.specs.Pieces.{Place}
-use Rattle.can_node.specs.Pieces.Place.{AtReset, AfterSof}
-use Rattle.can_node.specs.Record.{RecordEntry, bits_in, Inner}
-use Rattle.can_node.specs.Record.RecordEntry.{Send, Abort}
-use Rattle.can_node.specs.Record.Inner.{none_left, sends, aborts}
-use Rattle.can_node.specs.Effects.{along}
-use Rattle.can_node.specs.Cut.{IsUnfinished, IsOpenAt, IsOnBus, Move, From, FinishedPiece, none_yet}
-use Rattle.can_node.specs.Cut.IsOpenAt.{rests, nothing, begun}
-use Rattle.can_node.specs.Cut.Move.{sent, aborted}
-use Rattle.can_node.specs.Inside.Standing.{context_of}
-use Rattle.can_node.specs.Inside.Stages.{At, ByRole, IsInFlag, IsInFrame, IsReading}
-use Rattle.can_node.specs.Inside.Stages.IsInFrame.{from_idle, from_sof}
+use Rattle.can_node_rules.specs.Bits.{Bit}
+use Rattle.can_node_rules.specs.Context.{ContextValue, fresh, is_transmitter, flag_level}
+use Rattle.can_node_rules.specs.Pieces.{Place}
+use Rattle.can_node_rules.specs.Pieces.Place.{AtReset, AfterSof}
+use Rattle.can_node_rules.specs.Record.{RecordEntry, bits_in, Inner}
+use Rattle.can_node_rules.specs.Record.RecordEntry.{Send, Abort}
+use Rattle.can_node_rules.specs.Record.Inner.{none_left, sends, aborts}
+use Rattle.can_node_rules.specs.Effects.{along}
+use Rattle.can_node_rules.specs.Cut.{IsUnfinished, IsOpenAt, IsOnBus, Move, From, FinishedPiece, none_yet}
+use Rattle.can_node_rules.specs.Cut.IsOpenAt.{rests, nothing, begun}
+use Rattle.can_node_rules.specs.Cut.Move.{sent, aborted}
+use Rattle.can_node.specs.Standing.{context_of}
+use Rattle.can_node.specs.Stages.{At, IsReading}
+use Rattle.can_node_rules.specs.UnfinishedPieces.{ByRole, IsInFlag, IsInFrame}
+use Rattle.can_node_rules.specs.UnfinishedPieces.IsInFrame.{from_idle, from_sof}
 use Rattle.can_node.specs.Stands.{StandsAt, FollowsAt}
-use Rattle.can_node.proofs.Machine.Along.{along_both, bits_both}
-use Rattle.can_node.proofs.OneCut.GoOn.{open_end, stays_end, move_on, open_on, inner_both}
-use Rattle.can_node.proofs.Reception.Beginnings.{receives_after_sof}
-use Rattle.can_node.proofs.Transmission.TransmitterFronts.{transmitting_changed, transmitting_kept}
+use Rattle.can_node_rules.proofs.Machine.Along.{along_both, bits_both}
+use Rattle.can_node_rules.proofs.OneCut.GoOn.{open_end, stays_end, move_on, open_on, inner_both}
+use Rattle.can_node_rules.proofs.Reception.Beginnings.{receives_after_sof}
+use Rattle.can_node_rules.proofs.Transmission.TransmitterFronts.{transmitting_changed, transmitting_kept}
 
 -- a context with another request
 abbrev pub changed : ContextValue → Option Request → Bool → ContextValue

@@ -5,23 +5,24 @@ use Rattle.can_bits.specs.declared.shift.Shift.{Shift}
 use Rattle.can_node.specs.declared.stage.Stage.{Stage}
 use Rattle.can_node.specs.declared.stage.Stage.TheVariants.{InReset as StageInReset}
 use Rattle.can_node.specs.declared.node.Node.{Node}
-use Rattle.can_node.specs.Bits.{Bit}
-use Rattle.can_node.specs.Context.{ContextValue, fresh}
-use Rattle.can_node.specs.Pieces.{Place, Piece}
-use Rattle.can_node.specs.Pieces.Place.{AtReset}
-use Rattle.can_node.specs.Record.{RecordEntry, bits_in}
-use Rattle.can_node.specs.Record.RecordEntry.{OneBit, BusOff}
-use Rattle.can_node.specs.Counting.{at_bit}
-use Rattle.can_node.specs.Effects.{along, after, with_off, closed}
-use Rattle.can_node.specs.Table.{Row}
-use Rattle.can_node.specs.Cut.{IsUnfinished, IsOnBus, Move, From, FinishedPiece, Count, none_yet, counted, tagged}
-use Rattle.can_node.specs.Cut.Move.{piece, off_within, off_after}
-use Rattle.can_node.specs.Driving.{Drives}
-use Rattle.can_node.specs.Inside.Standing.{context_of}
-use Rattle.can_node.specs.Inside.Stages.{At}
+use Rattle.can_node_rules.specs.Bits.{Bit}
+use Rattle.can_node_rules.specs.Context.{ContextValue, fresh}
+use Rattle.can_node_rules.specs.Pieces.{Place, Piece}
+use Rattle.can_node_rules.specs.Pieces.Place.{AtReset}
+use Rattle.can_node_rules.specs.Record.{RecordEntry, bits_in}
+use Rattle.can_node_rules.specs.Record.RecordEntry.{OneBit, BusOff}
+use Rattle.can_node_rules.specs.Counting.{at_bit}
+use Rattle.can_node_rules.specs.Effects.{along, after, with_off, closed}
+use Rattle.can_node_rules.specs.Table.{Row}
+use Rattle.can_node_rules.specs.Cut.{IsUnfinished, IsOnBus, Move, From, FinishedPiece, Count, none_yet, counted, tagged}
+use Rattle.can_node_rules.specs.Cut.Move.{piece, off_within, off_after}
+use Rattle.can_node_rules.specs.Driving.{Drives}
+use Rattle.can_node.specs.Standing.{context_of}
+use Rattle.can_node.specs.Stages.{At}
 use Rattle.can_node.specs.Stands.{StandsAt, FollowsAt}
-use Rattle.can_node.proofs.Machine.Along.{along-bit}
-use Rattle.can_node.proofs.OneCut.GoOn.{counted_both, open_end, stays_end, move_on, open_on, no_rest_piece, slice_open}
+use Rattle.can_node_rules.proofs.Machine.Along.{along-bit}
+use Rattle.can_node_rules.proofs.OneCut.GoOn.{counted_both, open_end, stays_end, move_on, open_on, no_rest_piece}
+use Rattle.can_node_rules.proofs.OneCut.GoOn.{slice_open}
 use Rattle.can_node.proofs.Machine.Sampling.{bits_push, some_bit, open_at, pushed_open}
 
 -- a piece stands at no rest

@@ -1,32 +1,27 @@
 -- What a start, a stop, a request and an abort make of a record.
-use Rattle.std.proofs.Common.{◌≡◌, ◌≤◌, ◌&&◌, not, ℕ, Bool, true, false, List, [], ◌∷◌}
-use Rattle.std.specs.Prelude.{◌==◌, min, Option, Some, None}
-use Rattle.std.proofs.Common.{◌++◌, map, refl, ap, sym, subst, ◌∙◌, arith, if◌then◌else◌}
+use Rattle.std.proofs.Common.{◌≡◌, ◌≤◌, Bool, true, false, List, [], ◌∷◌}
+use Rattle.std.proofs.Common.{◌++◌, refl, ap, sym, subst, ◌∙◌, arith, if◌then◌else◌}
 use Rattle.std.proofs.lemmas.List.{append-nil}
-use Rattle.can_node.specs.declared.config.Config.{Config}
+use Rattle.can_node_rules.specs.declared.config.Config.{Config}
 use Rattle.can_node.specs.declared.stage.Stage.{Stage}
 use Rattle.can_node.specs.declared.stage.Stage.TheVariants.{InReset as StageInReset, Integrating as StageIntegrating}
 use Rattle.can_node.specs.declared.node.Node.{Node}
-use Rattle.can_node.specs.Bits.{Bit, recessive_bits}
-use Rattle.can_node.specs.Context.{ContextValue, fresh, integration_count}
-use Rattle.can_node.specs.Pieces.{Place}
-use Rattle.can_node.specs.Pieces.Place.{AtReset, AtIntegration}
-use Rattle.can_node.specs.Record.{RecordEntry, bits_in}
-use Rattle.can_node.specs.Record.RecordEntry.{Start, Stop, OneBit}
-use Rattle.can_node.specs.Effects.{along, recounted, with_tec, with_rec, with_start, with_stop}
-use Rattle.can_node.specs.Cut.{IsOpenAt, IsOnBus, Move, From, FinishedPiece, none_yet}
-use Rattle.can_node.specs.Cut.IsOpenAt.{nothing}
-use Rattle.can_node.specs.Cut.Move.{started, stopped}
-use Rattle.can_node.specs.Inside.Standing.{context_of, HasBody}
-use Rattle.can_node.specs.Inside.Stages.{At}
+use Rattle.can_node_rules.specs.Bits.{recessive_bits}
+use Rattle.can_node_rules.specs.Context.{ContextValue, fresh, integration_count}
+use Rattle.can_node_rules.specs.Pieces.{Place}
+use Rattle.can_node_rules.specs.Pieces.Place.{AtReset, AtIntegration}
+use Rattle.can_node_rules.specs.Record.{RecordEntry, bits_in}
+use Rattle.can_node_rules.specs.Record.RecordEntry.{Start, Stop}
+use Rattle.can_node_rules.specs.Effects.{along, with_start, with_stop}
+use Rattle.can_node_rules.specs.Cut.{IsOpenAt, IsOnBus, Move, From, FinishedPiece, none_yet}
+use Rattle.can_node_rules.specs.Cut.IsOpenAt.{nothing}
+use Rattle.can_node_rules.specs.Cut.Move.{started, stopped}
+use Rattle.can_node.specs.Standing.{context_of, HasBody}
+use Rattle.can_node.specs.Stages.{At}
 use Rattle.can_node.specs.Stands.{StandsAt, FollowsAt}
-use Rattle.can_node.proofs.OneCut.GoOn.{open_end, stays_end, move_on, rest_open}
-use Rattle.can_node.proofs.Waiting.Integrations.{integrates_from}
-
--- in reset the context stays
-pub along_rest : (c : ContextValue) (done bits : List Bit) → along c AtReset done (map OneBit bits) ≡ c
-along_rest c done [] = refl
-along_rest c done (b ∷ bits) = along_rest c (done ++ b ∷ []) bits
+use Rattle.can_node_rules.proofs.OneCut.GoOn.{open_end, stays_end, move_on, rest_open}
+use Rattle.can_node_rules.proofs.Waiting.Integrations.{integrates_from}
+use Rattle.can_node_rules.proofs.OneCut.Resets.{along_rest, start_stays}
 
 -- the same of a slice that is open there
 pub along_open : (c : ContextValue) (slice : List RecordEntry) → IsOpenAt c AtReset slice → along c AtReset [] slice ≡ c
@@ -55,37 +50,6 @@ new_holds node shows request e = let none = sym (ap (λ (d : ContextValue). d.he
 join_some : (off : Bool) → 1 ≤ (if off then 128 else 1)
 join_some true = omega arith
 join_some false = omega arith
-
-recounted_stays : (c : ContextValue) → IsOnBus c → IsOnBus (recounted c)
-recounted_stays c stays = chosen (c.off && not c.listen)
-  where
-    chosen : (test : Bool) → IsOnBus (if test then record c { tec = 127; rec = 0 } else c)
-    chosen true = omega arith
-    chosen false = stays
-
-tec_stays : (tec : Option ℕ) (c : ContextValue) → IsOnBus c → IsOnBus (with_tec tec c)
-tec_stays None c stays = stays
-tec_stays (Some n) c stays = chosen (n == 255)
-  where
-    chosen : (test : Bool) → IsOnBus (if test then record c { tec = 127; rec = 0; off = true } else
-        record c { tec = min n 254; off = false })
-    chosen true = omega arith
-    chosen false = grind arith
-
-rec_stays : (rec : Option ℕ) (c : ContextValue) → IsOnBus c → IsOnBus (with_rec rec c)
-rec_stays None c stays = stays
-rec_stays (Some n) c stays = chosen c.off
-  where
-    chosen : (test : Bool) → IsOnBus (if test then c else record c { rec = min n 255 })
-    chosen true = stays
-    chosen false = stays
-
--- a start keeps the node on the bus
-pub start_stays : (config : Config) (c : ContextValue) → IsOnBus c → IsOnBus (with_start config c)
-start_stays config c stays =
-    let first = record c { listen = config.listen; self_test = config.self_test } in
-    recounted_stays (with_rec config.rec (with_tec config.tec first))
-    (rec_stays config.rec (with_tec config.tec first) (tec_stays config.tec first stays))
 
 -- the cut from a rest on
 started_on : (config : Config) {c : ContextValue} {place : Place} {entries slice : List RecordEntry}
@@ -138,37 +102,6 @@ started_stands old new config entries found reset shows stage h =
       shows = same;
       at = subst Q (sym waits) (refl, integrates_from now (join_some now.off));
     }
-
--- it keeps the request that is held, if any
-pub start_holds : (config : Config) (c : ContextValue) → (with_start config c).held ≡ c.held
-start_holds config c =
-    let first = record c { listen = config.listen; self_test = config.self_test } in
-    recounted_holds (with_rec config.rec (with_tec config.tec first))
-    ∙ rec_holds config.rec (with_tec config.tec first) ∙ tec_holds config.tec first
-  where
-    recounted_holds : (c : ContextValue) → (recounted c).held ≡ c.held
-    recounted_holds c = chosen (c.off && not c.listen)
-      where
-        chosen : (test : Bool) → (if test then record c { tec = 127; rec = 0 } else c).held ≡ c.held
-        chosen true = refl
-        chosen false = refl
-
-    tec_holds : (tec : Option ℕ) (c : ContextValue) → (with_tec tec c).held ≡ c.held
-    tec_holds None c = refl
-    tec_holds (Some n) c = chosen (n == 255)
-      where
-        chosen : (test : Bool) → (if test then record c { tec = 127; rec = 0; off = true } else
-            record c { tec = min n 254; off = false }).held ≡ c.held
-        chosen true = refl
-        chosen false = refl
-
-    rec_holds : (rec : Option ℕ) (c : ContextValue) → (with_rec rec c).held ≡ c.held
-    rec_holds None c = refl
-    rec_holds (Some n) c = chosen c.off
-      where
-        chosen : (test : Bool) → (if test then c else record c { rec = min n 255 }).held ≡ c.held
-        chosen true = refl
-        chosen false = refl
 
 -- ---- a stop
 

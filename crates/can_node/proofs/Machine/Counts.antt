@@ -1,23 +1,25 @@
 -- The steps of a bit at each piece, from what the node's functions say of them.
 use Rattle.std.proofs.Common.{◌≡◌, ◌<◌, ◌+◌, ◌%◌, ◌==◌, ◌&&◌, ℕ, zero, suc, Bool, false, fold}
 use Rattle.std.proofs.Common.{length, is_some, List, [], ◌∷◌, refl, ap, sym, subst, ◌∙◌, arith}
-use Rattle.can_bits.specs.declared.level.Level.{Level}
+use Rattle.can_levels.specs.declared.level.Level.{Level}
 use Rattle.can_bits.specs.declared.shift.Shift.{Shift}
-use Rattle.can_node.specs.declared.role.Role.TheVariants.{Transmitter}
+use Rattle.can_node_rules.specs.declared.role.Role.TheVariants.{Transmitter}
 use Rattle.can_node.specs.declared.stage.Stage.{Stage}
 use Rattle.can_node.specs.declared.stage.Stage.TheVariants.{Integrating as StageIntegrating}
 use Rattle.can_node.specs.declared.stage.Stage.TheVariants.{InFrame as StageInFrame, InDelimiter as StageInDelimiter}
-use Rattle.can_node.specs.Bits.{Bit, seen_of}
-use Rattle.can_node.specs.Context.{ContextValue}
-use Rattle.can_node.specs.Pieces.{Place}
-use Rattle.can_node.specs.Counting.{at_bit, integration_bit, next_run, frame_bit}
-use Rattle.can_node.specs.Counting.{lost_by, delimiter_level, are_dominant}
-use Rattle.can_node.specs.Events.{lost_in, lost_as}
-use Rattle.can_node.specs.Inside.Standing.{is_nil}
-use Rattle.can_node.specs.Inside.Stages.{At, IsInDelimiter, frame_bits}
+use Rattle.can_node_rules.specs.Bits.{Bit, seen_of}
+use Rattle.can_node_rules.specs.Context.{ContextValue}
+use Rattle.can_node_rules.specs.Pieces.{Place}
+use Rattle.can_node_rules.specs.Counting.{at_bit, integration_bit, next_run, frame_bit}
+use Rattle.can_node_rules.specs.Counting.{lost_by, delimiter_level, are_dominant}
+use Rattle.can_node_rules.specs.Events.{lost_in, lost_as}
+use Rattle.can_node_rules.specs.KeptContexts.{is_nil}
+use Rattle.can_node.specs.Stages.{At}
+use Rattle.can_node_rules.specs.UnfinishedPieces.{IsInDelimiter, frame_bits}
 use Rattle.can_node.proofs.Machine.Ats.{at_is}
-use Rattle.can_node.proofs.Waiting.Delimiters.{eighth_is, first_is, first_only, not_none}
-use Rattle.can_node.proofs.Machine.FrameTurns.{frame_at, lost_at}
+use Rattle.can_node_rules.proofs.Waiting.Delimiters.{eighth_is, first_is, first_only, not_none}
+use Rattle.can_node.proofs.Machine.FrameTurns.{lost_at}
+use Rattle.can_node_rules.proofs.Bits.FrameSites.{frame_at}
 
 -- while the bus is waited for
 pub count_integration : (left run : ℕ) (stage : Stage) (shift : Shift) (c now new : ContextValue) (place : Place)

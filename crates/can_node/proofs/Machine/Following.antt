@@ -2,12 +2,12 @@
 use Rattle.std.proofs.Common.{◌≡◌, ◌&&◌, ◌<◌, true, false, List, [], ◌∷◌, ◌++◌, length, refl, ap, ◌∙◌, subst}
 use Rattle.std.proofs.Common.{arith}
 use Rattle.std.proofs.lemmas.List.{length-append, same_from_push}
-use Rattle.can_bits.specs.declared.level.Level.{Level}
+use Rattle.can_levels.specs.declared.level.Level.{Level}
 use Rattle.can_bits.specs.declared.shift.Shift.{Shift}
 use Rattle.can_node.specs.declared.node.Node.{Node}
-use Rattle.can_node.specs.declared.role.Role.{Role}
+use Rattle.can_node_rules.specs.declared.role.Role.{Role}
 use Rattle.can_node.specs.declared.stage.Stage.{Stage}
-use Rattle.can_node.specs.Context.{is_transmitter}
+use Rattle.can_node_rules.specs.Context.{is_transmitter}
 use Rattle.can_node.specs.Together.{HasReadAs, IsApart, ReadsBit, ReadsBits, SendsBit, SendsBits, following, gone_on}
 use Rattle.can_node.specs.Together.{TakesBits, is_in_frame, is_sending, reader_of, reading_as, sending_as}
 use Rattle.can_node.specs.Together.ReadsBits.{no_level, level_more}

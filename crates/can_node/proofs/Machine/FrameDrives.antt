@@ -1,40 +1,29 @@
 -- What a node drives in a frame, and what it knows of its next bit.
 use Rattle.std.proofs.Common.{◌≡◌, ℕ, length, Bool, Option, Some, List, ◌∷◌, ◌++◌, ap, sym, subst, ◌∙◌}
-use Rattle.can_bits.specs.declared.level.Level.{Level}
-use Rattle.can_bits.specs.declared.level.Level.TheVariants.{Dominant, Recessive}
+use Rattle.can_levels.specs.declared.level.Level.{Level}
+use Rattle.can_levels.specs.declared.level.Level.TheVariants.{Dominant, Recessive}
 use Rattle.can_bits.specs.declared.shift.Shift.{Shift}
-use Rattle.can_bits.specs.Body.{sent_body}
-use Rattle.can_bits.specs.Check.{Crc}
-use Rattle.can_bits.specs.Line.{StuffedPart, tail}
-use Rattle.can_bits.specs.Places.{is_early_stuff, place_code}
+use Rattle.can_levels.specs.Body.{sent_body}
+use Rattle.can_levels.specs.Check.{Crc}
+use Rattle.can_levels.specs.Line.{StuffedPart, tail}
+use Rattle.can_levels.specs.Places.{place_code}
 use Rattle.can_bits.specs.Shifts.{StandsFor}
-use Rattle.can_bits.specs.Streaming.{IsReadable}
-use Rattle.can_node.specs.declared.role.Role.{Role}
-use Rattle.can_node.specs.declared.role.Role.TheVariants.{Transmitter, Receiver}
-use Rattle.can_node.specs.declared.request.Request.{Request}
-use Rattle.can_node.specs.Bits.{Bit, seen_of, driven_of}
-use Rattle.can_node.specs.Context.{ContextValue}
-use Rattle.can_node.specs.Pieces.{Place}
-use Rattle.can_node.specs.Counting.{lost_by}
-use Rattle.can_node.specs.Events.{lost_in, lost_as}
-use Rattle.can_node.specs.Frames.{Acknowledges}
-use Rattle.can_node.specs.Driving.{Drives, FrameDrives, TransmitsNext}
-use Rattle.can_node.specs.Inside.Stages.{IsReading, IsTransmitting, frame_bits}
-use Rattle.can_node.proofs.Machine.FrameTurns.{drives_frame, lost_at, transmitting_by, transmitting_readable}
-use Rattle.can_node.proofs.Transmission.TransmitterFronts.{transmitting_next}
-
--- an early stuff bit of the request that a node holds
-pub early_by : (shift : Shift) (c now : ContextValue) (place : Place) (bits : List Bit) (request : Request)
-    (ext early : Bool) (h : IsTransmitting c now place bits) →
-    now.held ≡ Some request → ext ≡ request.frame.ext → StandsFor shift (seen_of (frame_bits place bits)) →
-    ((l : List Level) → StandsFor shift l → IsReadable l → early ≡ is_early_stuff ext l) →
-    early ≡ is_early_stuff h.request.frame.ext (seen_of (frame_bits place bits))
-early_by shift c now place bits request ext early h held kind stands f =
-    let l = seen_of (frame_bits place bits) in
-    let whole : Some request ≡ Some h.request = sym held ∙ h.held in
-    let same : request ≡ h.request = cc in
-    f l stands (transmitting_readable c now place bits h) ∙ ap (λ e. is_early_stuff e l) kind
-    ∙ ap (λ r. is_early_stuff r.frame.ext l) same
+use Rattle.can_levels.specs.Streaming.{IsReadable}
+use Rattle.can_node_rules.specs.declared.role.Role.{Role}
+use Rattle.can_node_rules.specs.declared.role.Role.TheVariants.{Transmitter, Receiver}
+use Rattle.can_node_rules.specs.declared.request.Request.{Request}
+use Rattle.can_node_rules.specs.Bits.{Bit, seen_of, driven_of}
+use Rattle.can_node_rules.specs.Context.{ContextValue}
+use Rattle.can_node_rules.specs.Pieces.{Place}
+use Rattle.can_node_rules.specs.Counting.{lost_by}
+use Rattle.can_node_rules.specs.Events.{lost_in, lost_as}
+use Rattle.can_node_rules.specs.Frames.{Acknowledges}
+use Rattle.can_node_rules.specs.Driving.{Drives, FrameDrives, TransmitsNext}
+use Rattle.can_node.specs.Stages.{IsReading}
+use Rattle.can_node_rules.specs.UnfinishedPieces.{frame_bits}
+use Rattle.can_node.proofs.Machine.FrameTurns.{lost_at, transmitting_by, transmitting_readable}
+use Rattle.can_node_rules.proofs.Bits.FrameSites.{drives_frame}
+use Rattle.can_node_rules.proofs.Transmission.TransmitterFronts.{transmitting_next}
 
 -- a place code of its frame
 pub code_by : (shift : Shift) (c now : ContextValue) (place : Place) (bits : List Bit) (driven seen : Level)

@@ -2,20 +2,21 @@
 use Rattle.std.proofs.Common.{◌≡◌, ◌&&◌, ◌||◌, not, Bool, true, false, Option, Some}
 use Rattle.std.proofs.Common.{None, [], ◌∷◌, refl, ap, sym, ◌∙◌, if◌then◌else◌}
 use Rattle.can_frame.specs.Frame.{IsFrame}
-use Rattle.can_bits.specs.declared.level.Level.TheVariants.{Dominant}
+use Rattle.can_levels.specs.declared.level.Level.TheVariants.{Dominant}
 use Rattle.can_bits.specs.declared.shift.Shift.{Shift}
 use Rattle.can_bits.specs.Shifts.{StandsFor}
-use Rattle.can_node.specs.declared.role.Role.{Role}
-use Rattle.can_node.specs.declared.role.Role.TheVariants.{Transmitter, Receiver}
-use Rattle.can_node.specs.declared.request.Request.{Request}
-use Rattle.can_node.specs.Context.{ContextValue, is_held, is_transmitter, owes_suspension}
-use Rattle.can_node.specs.Effects.{closed, role_after_sof}
-use Rattle.can_node.specs.Pieces.Place.{AfterSof}
-use Rattle.can_node.specs.Pieces.Piece.{InterframeSpaceWithSof}
-use Rattle.can_node.specs.Inside.Stages.{ByRole, IsReading}
-use Rattle.can_node.specs.Inside.Stages.IsInFrame.{from_sof}
-use Rattle.can_node.proofs.Reception.Beginnings.{receives_after_sof}
-use Rattle.can_node.proofs.Transmission.TransmitterFronts.{transmits_after_sof}
+use Rattle.can_node_rules.specs.declared.role.Role.{Role}
+use Rattle.can_node_rules.specs.declared.role.Role.TheVariants.{Transmitter, Receiver}
+use Rattle.can_node_rules.specs.declared.request.Request.{Request}
+use Rattle.can_node_rules.specs.Context.{ContextValue, is_held, is_transmitter, owes_suspension}
+use Rattle.can_node_rules.specs.Effects.{closed, role_after_sof}
+use Rattle.can_node_rules.specs.Pieces.Place.{AfterSof}
+use Rattle.can_node_rules.specs.Pieces.Piece.{InterframeSpaceWithSof}
+use Rattle.can_node.specs.Stages.{IsReading}
+use Rattle.can_node_rules.specs.UnfinishedPieces.{ByRole}
+use Rattle.can_node_rules.specs.UnfinishedPieces.IsInFrame.{from_sof}
+use Rattle.can_node_rules.proofs.Reception.Beginnings.{receives_after_sof}
+use Rattle.can_node_rules.proofs.Transmission.TransmitterFronts.{transmits_after_sof}
 
 -- what makes a node transmitter there
 transmitter_if : (held : Option Request) (listen owes : Bool) →

@@ -1,51 +1,33 @@
 -- One bit of a frame, as the node has it.
 use Rattle.std.proofs.Common.{◌≡◌, Bool, true, false, Some, is_some, List, []}
 use Rattle.std.proofs.Common.{◌∷◌, ◌++◌, refl, ap, sym, subst, ◌∙◌, if◌then◌else◌}
-use Rattle.can_bits.specs.declared.level.Level.{Level}
-use Rattle.can_bits.specs.declared.level.Level.TheVariants.{Dominant, Recessive}
+use Rattle.can_levels.specs.declared.level.Level.{Level}
 use Rattle.can_bits.specs.declared.shift.Shift.{Shift}
 use Rattle.can_bits.specs.Shifts.{StandsFor}
-use Rattle.can_bits.specs.Streaming.{IsReadable}
-use Rattle.can_node.specs.declared.role.Role.{Role}
-use Rattle.can_node.specs.declared.role.Role.TheVariants.{Transmitter, Receiver}
-use Rattle.can_node.specs.declared.request.Request.{Request}
+use Rattle.can_levels.specs.Streaming.{IsReadable}
+use Rattle.can_node_rules.specs.declared.role.Role.{Role}
+use Rattle.can_node_rules.specs.declared.role.Role.TheVariants.{Transmitter, Receiver}
+use Rattle.can_node_rules.specs.declared.request.Request.{Request}
 use Rattle.can_node.specs.declared.stage.Stage.{Stage}
 use Rattle.can_node.specs.declared.after_bit.AfterBit.{AfterBit}
 use Rattle.can_node.specs.declared.after_bit.AfterBit.TheVariants.{InPiece, Ended}
-use Rattle.can_node.specs.Bits.{Bit, seen_of}
-use Rattle.can_node.specs.Context.{ContextValue}
-use Rattle.can_node.specs.Pieces.{Place}
-use Rattle.can_node.specs.Counting.{at_bit, frame_bit, lost_by, lose, if_acknowledged}
-use Rattle.can_node.specs.Events.{lost_in, lost_as}
-use Rattle.can_node.specs.Frames.{Acknowledges}
-use Rattle.can_node.specs.Driving.{Drives, FrameDrives}
-use Rattle.can_node.specs.Inside.Standing.{IsKept}
-use Rattle.can_node.specs.Inside.Stages.{At, ByRole, IsFramePlace, IsInFrame, IsReading}
-use Rattle.can_node.specs.Inside.Stages.{IsReceiving, IsTransmitting, frame_bits}
-use Rattle.can_node.specs.Inside.Stages.IsFramePlace.{idle_place, sof_place}
-use Rattle.can_node.specs.Inside.Stages.IsInFrame.{from_idle, from_sof}
+use Rattle.can_node_rules.specs.Bits.{Bit, seen_of}
+use Rattle.can_node_rules.specs.Context.{ContextValue}
+use Rattle.can_node_rules.specs.Pieces.{Place}
+use Rattle.can_node_rules.specs.Counting.{at_bit, frame_bit, lost_by, lose}
+use Rattle.can_node_rules.specs.Events.{lost_in, lost_as}
+use Rattle.can_node_rules.specs.Frames.{Acknowledges}
+use Rattle.can_node_rules.specs.Driving.{Drives, FrameDrives}
+use Rattle.can_node_rules.specs.KeptContexts.{IsKept}
+use Rattle.can_node.specs.Stages.{At, IsReading}
+use Rattle.can_node_rules.specs.UnfinishedPieces.{ByRole, IsInFrame}
+use Rattle.can_node_rules.specs.UnfinishedPieces.{IsReceiving, IsTransmitting, frame_bits}
+use Rattle.can_node_rules.specs.UnfinishedPieces.IsInFrame.{from_idle, from_sof}
 use Rattle.can_node.specs.Inside.Turns.{IsMade, IsTurn, ReceivesOn, TransmitsOn, TransmitsBit, ReceivesBit}
-use Rattle.can_node.proofs.Bits.FramePlaces.{frame_seen}
-use Rattle.can_node.proofs.Transmission.TransmitterFronts.{transmitting_kept, drives_sends}
-use Rattle.can_node.proofs.Transmission.WellNext.{well_readable}
-
--- ---- a frame at its two places
-
--- a frame stands at one of them
-pub place_of : (place : Place) (bits : List Bit) → IsInFrame place bits → IsFramePlace place
-place_of place bits (from_idle b more) = idle_place
-place_of place bits (from_sof more) = sof_place
-
--- with one bit more
-pub still_in : (place : Place) (bits : List Bit) (b : Bit) → IsInFrame place bits → IsInFrame place (bits ++ b ∷ [])
-still_in place bits b (from_idle x more) = from_idle x (more ++ b ∷ [])
-still_in place bits b (from_sof more) = from_sof (more ++ b ∷ [])
-
--- its bit is a bit of a frame
-pub frame_at : (now : ContextValue) (place : Place) (bits : List Bit) (b : Bit) → IsInFrame place bits →
-    at_bit now place bits b ≡ frame_bit now.role now (seen_of (frame_bits place bits)) b
-frame_at now place bits b (from_idle x more) = refl
-frame_at now place bits b (from_sof more) = refl
+use Rattle.can_node_rules.proofs.Bits.FramePlaces.{frame_seen}
+use Rattle.can_node_rules.proofs.Transmission.TransmitterFronts.{transmitting_kept, drives_sends}
+use Rattle.can_node_rules.proofs.Transmission.WellNext.{well_readable}
+use Rattle.can_node_rules.proofs.Bits.FrameSites.{place_of, still_in, frame_at, receives}
 
 -- arbitration is lost there by its levels
 pub lost_at : (now : ContextValue) (place : Place) (bits : List Bit) (b : Bit) → IsInFrame place bits →
@@ -59,13 +41,6 @@ pub frame_drives : (now : ContextValue) (place : Place) (bits : List Bit) (x : L
     FrameDrives now.role now (frame_bits place bits) x
 frame_drives now place bits x (from_idle y more) h = h
 frame_drives now place bits x (from_sof more) h = h
-
--- and the other way round
-pub drives_frame : (now : ContextValue) (place : Place) (bits : List Bit) (x : Level) → IsInFrame place bits →
-    FrameDrives now.role now (frame_bits place bits) x →
-    Drives now place bits x
-drives_frame now place bits x (from_idle y more) h = h
-drives_frame now place bits x (from_sof more) h = h
 
 -- ---- what a bit makes of it
 
@@ -106,14 +81,6 @@ transmitted_made true (InPiece stage) shift c now other place bits role held sit
 transmitted_made false (Ended done) shift c now other place bits role held site stands h = h.1
 transmitted_made true (Ended done) shift c now other place bits role held site stands h = let wrong : true ≡ false =
     h.0 in absurd cc
-
--- ---- the context after it
-
--- a receiver stays receiver
-pub receives : (c : ContextValue) (x y : Level) → (if_acknowledged x y c).role ≡ c.role
-receives c Dominant Dominant = refl
-receives c Dominant Recessive = refl
-receives c Recessive y = refl
 
 -- a transmitter's role and request after a bit
 role_after : (lost : Bool) (c d : ContextValue) → c.role ≡ Transmitter → d.role ≡ Receiver →

@@ -3,14 +3,14 @@ use Rattle.std.proofs.Common.{◌≡◌, Bool, true, false, nat_le, Some, None, 
 use Rattle.can_node.specs.declared.after_bit.AfterBit.{AfterBit}
 use Rattle.can_node.specs.declared.after_bit.AfterBit.TheVariants.{InPiece, Ended}
 use Rattle.can_node.specs.declared.ending.Ending.{Ending}
-use Rattle.can_node.specs.declared.request.Request.{Request}
-use Rattle.can_node.specs.Bits.{Bit}
-use Rattle.can_node.specs.Context.{ContextValue}
-use Rattle.can_node.specs.Pieces.{Place}
-use Rattle.can_node.specs.Counting.{at_bit}
-use Rattle.can_node.specs.Effects.{closed, with_off}
+use Rattle.can_node_rules.specs.declared.request.Request.{Request}
+use Rattle.can_node_rules.specs.Bits.{Bit}
+use Rattle.can_node_rules.specs.Context.{ContextValue}
+use Rattle.can_node_rules.specs.Pieces.{Place}
+use Rattle.can_node_rules.specs.Counting.{at_bit}
+use Rattle.can_node_rules.specs.Effects.{closed, with_off}
 use Rattle.can_node.specs.Inside.Turns.{resulted, off_if, piece_of, next_of}
-use Rattle.can_node.proofs.Machine.Changes.{KeepsRequest, bit_changes, end_keeps}
+use Rattle.can_node_rules.proofs.Machine.Changes.{KeepsRequest, bit_changes, end_keeps}
 
 -- the second context holds no request but that of the first
 abbrev pub HoldsBack : ContextValue → ContextValue → Type 0

@@ -1,41 +1,37 @@
 -- One bit where the bus is idle, as the node has it.
 use Rattle.std.proofs.Common.{◌≡◌, Bool, true, false, Option, Some, None, is_some, List}
 use Rattle.std.proofs.Common.{[], ◌∷◌, ◌++◌, refl, ap, sym, subst, ◌∙◌, if◌then◌else◌}
-use Rattle.can_bits.specs.declared.level.Level.{Level}
-use Rattle.can_bits.specs.declared.level.Level.TheVariants.{Dominant, Recessive}
+use Rattle.can_levels.specs.declared.level.Level.{Level}
+use Rattle.can_levels.specs.declared.level.Level.TheVariants.{Dominant, Recessive}
 use Rattle.can_bits.specs.declared.shift.Shift.{Shift}
-use Rattle.can_bits.specs.Fields.{is_recessive}
-use Rattle.can_bits.proofs.Values.{recessive_by, dominant_by}
+use Rattle.can_levels.specs.Fields.{is_recessive}
+use Rattle.can_levels.proofs.Values.{recessive_by, dominant_by}
 use Rattle.can_frame.specs.Frame.{IsFrame}
-use Rattle.can_bits.specs.Places.{begins_in_five, is_early_stuff}
 use Rattle.can_bits.specs.Shifts.{StandsFor}
-use Rattle.can_node.specs.declared.role.Role.{Role}
-use Rattle.can_node.specs.declared.role.Role.TheVariants.{Transmitter, Receiver}
-use Rattle.can_node.specs.declared.request.Request.{Request}
+use Rattle.can_node_rules.specs.declared.role.Role.{Role}
+use Rattle.can_node_rules.specs.declared.role.Role.TheVariants.{Transmitter, Receiver}
+use Rattle.can_node_rules.specs.declared.request.Request.{Request}
 use Rattle.can_node.specs.declared.after_bit.AfterBit.{AfterBit}
-use Rattle.can_node.specs.Bits.{Bit, recessive_bit}
-use Rattle.can_node.specs.Context.{ContextValue}
-use Rattle.can_node.specs.Pieces.{sent_at}
-use Rattle.can_node.specs.Pieces.Place.{AtIdle}
-use Rattle.can_node.specs.Pieces.Piece.{IdleBit}
-use Rattle.can_node.specs.Counting.{first_bit, lost_by}
-use Rattle.can_node.specs.Table.{Row}
-use Rattle.can_node.specs.Table.Row.{idle}
-use Rattle.can_node.specs.Driving.{IdleDrives, TransmitsNext}
-use Rattle.can_node.specs.Inside.Stages.{ByRole, IsReading, IsReceiving}
-use Rattle.can_node.specs.Inside.Stages.IsFramePlace.{idle_place}
-use Rattle.can_node.specs.Inside.Stages.IsInFrame.{from_idle}
+use Rattle.can_node_rules.specs.Bits.{Bit, recessive_bit}
+use Rattle.can_node_rules.specs.Context.{ContextValue}
+use Rattle.can_node_rules.specs.Pieces.{sent_at}
+use Rattle.can_node_rules.specs.Pieces.Place.{AtIdle}
+use Rattle.can_node_rules.specs.Pieces.Piece.{IdleBit}
+use Rattle.can_node_rules.specs.Counting.{first_bit, lost_by}
+use Rattle.can_node_rules.specs.Table.{Row}
+use Rattle.can_node_rules.specs.Table.Row.{idle}
+use Rattle.can_node_rules.specs.Driving.{IdleDrives, TransmitsNext}
+use Rattle.can_node.specs.Stages.{IsReading}
+use Rattle.can_node_rules.specs.UnfinishedPieces.{ByRole, IsReceiving}
+use Rattle.can_node_rules.specs.UnfinishedPieces.IsFramePlace.{idle_place}
+use Rattle.can_node_rules.specs.UnfinishedPieces.IsInFrame.{from_idle}
 use Rattle.can_node.specs.Inside.Turns.{IsMade, IsTurn, TransmitsBit}
 use Rattle.can_node.proofs.Machine.FrameTurns.{one_request, transmitted_made}
-use Rattle.can_node.proofs.Transmission.TransmitterFronts.{transmits_from_idle, sends_start}
-use Rattle.can_node.proofs.Reception.Beginnings.{receives_from_idle}
+use Rattle.can_node_rules.proofs.Transmission.TransmitterFronts.{transmits_from_idle, sends_start}
+use Rattle.can_node_rules.proofs.Reception.Beginnings.{receives_from_idle}
+use Rattle.can_node_rules.proofs.Bits.SentParts.{sends_parts}
 
 -- ---- a frame that begins where the bus is idle
-
--- its start is no stuff bit
-none_early : (ext : Bool) → false ≡ is_early_stuff ext []
-unfolding begins_in_five
-none_early ext = refl
 
 -- and nothing is lost in it
 dominant_keeps : (request : Request) (x : Level) → false ≡ is_some (lost_by (Some request) [] Dominant x)
@@ -63,13 +59,6 @@ idle_transmits shift new now request driven seen self_test turn fits held speaks
     transmitted_made false turn new now now (record now { role = Transmitter }) AtIdle (b ∷ []) refl (λ e. refl)
     (from_idle b []) (stands [] stood) told
 
--- a node that sends holds a request, and doesn't only listen
-pub sends_parts : (listen : Bool) (held : Option Request) (request : Request) →
-    (if listen then None else held) ≡ Some request →
-    (listen ≡ false) × (held ≡ Some request)
-sends_parts true held request e = absurd cc
-sends_parts false held request e = (refl, e)
-
 -- the same for a node that sends
 pub idle_sends : (shift new : Shift) (now : ContextValue) (request : Request) (driven seen : Level) (self_test : Bool)
     (turn : AfterBit) →
@@ -86,11 +75,6 @@ idle_sends shift new now request driven seen self_test turn sent fits strict sto
     subst Made (sym sent)
     (idle_transmits shift new now request driven seen self_test turn (fits request parts.1) parts.1 parts.0 strict stood
     (subst Driving sent drives) stands transmits_on)
-
--- drives recessive
-pub none_drives : (sent : Option Request) (x : Level) → sent ≡ None → IdleDrives sent x → x ≡ Recessive
-none_drives None x e h = h
-none_drives (Some request) x e h = absurd cc
 
 -- another node's frame begins
 pub idle_begins : (new : Shift) (now : ContextValue) (seen : Level) → sent_at now AtIdle ≡ None → now.role ≡ Receiver →
@@ -112,12 +96,3 @@ pub idle_still : (now : ContextValue) (seen : Level) → sent_at now AtIdle ≡ 
 idle_still now seen none sees =
     let P : Level → Type 0 = λ x. Row now AtIdle (recessive_bit x ∷ []) IdleBit AtIdle in
     subst P (sym (recessive_by seen sees)) (idle none)
-
--- a bit in which the node drives recessive, as it does where it begins no frame
-pub idle_bit_is : (new : Shift) (now : ContextValue) (driven seen : Level) (turn : AfterBit) →
-    sent_at now AtIdle ≡ None → IdleDrives (sent_at now AtIdle) driven →
-    IsTurn new now now AtIdle [] (recessive_bit seen) turn →
-    IsTurn new now now AtIdle [] (record { driven = driven; seen = seen }) turn
-idle_bit_is new now driven seen turn none drives made =
-    let P : Level → Type 0 = λ x. IsTurn new now now AtIdle [] (record { driven = x; seen = seen }) turn in
-    subst P (sym (none_drives (sent_at now AtIdle) driven none drives)) made

@@ -2,30 +2,31 @@
 use Rattle.std.proofs.Common.{◌≡◌, ◌≢◌, ℕ, Some, None, List, [], length, refl, subst, sym, ap, ◌∙◌}
 use Rattle.std.specs.Prelude.{Option, is_some, replicate}
 use Rattle.std.proofs.lemmas.List.{length-map, length-replicate}
-use Rattle.can_bits.specs.declared.level.Level.{Level}
-use Rattle.can_bits.specs.declared.level.Level.TheVariants.{Recessive}
-use Rattle.can_bits.specs.declared.segment.Segment.TheVariants.{EndOfFrame}
-use Rattle.can_bits.specs.declared.frame_place.FramePlace.{FramePlace}
-use Rattle.can_bits.specs.declared.frame_place.FramePlace.TheVariants.{Plain}
+use Rattle.can_levels.specs.declared.level.Level.{Level}
+use Rattle.can_levels.specs.declared.level.Level.TheVariants.{Recessive}
+use Rattle.can_levels.specs.declared.segment.Segment.TheVariants.{EndOfFrame}
+use Rattle.can_levels.specs.declared.frame_place.FramePlace.{FramePlace}
+use Rattle.can_levels.specs.declared.frame_place.FramePlace.TheVariants.{Plain}
 use Rattle.can_bits.specs.declared.shift.Shift.{Shift}
-use Rattle.can_bits.specs.FramePlaces.{IsNextPlace}
+use Rattle.can_levels.specs.FramePlaces.{IsNextPlace}
 use Rattle.can_bits.specs.Shifts.{StandsFor}
-use Rattle.can_bits.specs.Streaming.{IsReadable}
-use Rattle.can_node.specs.declared.node_place.NodePlace.{NodePlace}
-use Rattle.can_node.specs.declared.node_place.NodePlace.TheVariants.{InFrame}
+use Rattle.can_levels.specs.Streaming.{IsReadable}
+use Rattle.can_node_rules.specs.declared.node_place.NodePlace.{NodePlace}
+use Rattle.can_node_rules.specs.declared.node_place.NodePlace.TheVariants.{InFrame}
 use Rattle.can_node.specs.declared.stage.Stage.{Stage}
 use Rattle.can_node.specs.declared.stage.Stage.TheVariants.{InReset as StageInReset, Integrating as StageIntegrating}
 use Rattle.can_node.specs.declared.stage.Stage.TheVariants.{BusIdle as StageBusIdle, InFrame as StageInFrame}
 use Rattle.can_node.specs.declared.stage.Stage.TheVariants.{LastEofBit as StageLastEofBit, InFlag as StageInFlag}
 use Rattle.can_node.specs.declared.stage.Stage.TheVariants.{InDelimiter as StageInDelimiter}
 use Rattle.can_node.specs.declared.stage.Stage.TheVariants.{InInterframeSpace as StageInInterframeSpace}
-use Rattle.can_node.specs.Bits.{Bit, seen_of, recessive_bit}
-use Rattle.can_node.specs.Context.{ContextValue}
-use Rattle.can_node.specs.Pieces.{Place, sent_at}
-use Rattle.can_node.specs.Pieces.Place.{AtReset, AtIntegration, AtIdle, AtLastEofBit, AtFlag, AtDelimiter}
-use Rattle.can_node.specs.Pieces.Place.{AtInterframeSpace}
-use Rattle.can_node.specs.Inside.Stages.{At, IsInFrame, IsReading, IsInInterframeSpace, frame_bits}
-use Rattle.can_node.specs.Inside.Stages.IsInFrame.{from_idle, from_sof}
+use Rattle.can_node_rules.specs.Bits.{Bit, seen_of, recessive_bit}
+use Rattle.can_node_rules.specs.Context.{ContextValue}
+use Rattle.can_node_rules.specs.Pieces.{Place, sent_at}
+use Rattle.can_node_rules.specs.Pieces.Place.{AtReset, AtIntegration, AtIdle, AtLastEofBit, AtFlag, AtDelimiter}
+use Rattle.can_node_rules.specs.Pieces.Place.{AtInterframeSpace}
+use Rattle.can_node.specs.Stages.{At, IsReading}
+use Rattle.can_node_rules.specs.UnfinishedPieces.{IsInFrame, IsInInterframeSpace, frame_bits}
+use Rattle.can_node_rules.specs.UnfinishedPieces.IsInFrame.{from_idle, from_sof}
 use Rattle.can_node.specs.NextPlace.{PlaceAt, in_frame, sends_extended, start_if, pause_if}
 use Rattle.can_node.proofs.Machine.Segments.{readable_by}
 

@@ -4,30 +4,33 @@ use Rattle.std.proofs.Common.{List, [], ◌∷◌, ◌++◌, refl, ap, sym, subs
 use Rattle.std.proofs.lemmas.List.{append-nil}
 use Rattle.std.proofs.lemmas.Bool.{lt-leb}
 use Rattle.std.proofs.Math.Bool.{and-not_self}
-use Rattle.can_bits.specs.declared.level.Level.{Level}
-use Rattle.can_node.specs.declared.outcome.Outcome.TheVariants.{Failed}
+use Rattle.can_levels.specs.declared.level.Level.{Level}
+use Rattle.can_node_rules.specs.declared.outcome.Outcome.TheVariants.{Failed}
 use Rattle.can_node.specs.declared.context.Context.{Context}
 use Rattle.can_node.specs.declared.node.Node.{Node}
-use Rattle.can_node.specs.Bits.{Bit}
-use Rattle.can_node.specs.Context.{ContextValue, is_transmitter, is_held}
-use Rattle.can_node.specs.Pieces.{Place}
-use Rattle.can_node.specs.Record.{RecordEntry}
-use Rattle.can_node.specs.Record.RecordEntry.{OneBit}
-use Rattle.can_node.specs.Counting.{at_bit}
-use Rattle.can_node.specs.Cut.{FinishedPiece, none_yet, counted}
-use Rattle.can_node.specs.Events.{Step, stepped, lost_in, received_in, fault_in, ended_in, events_of}
-use Rattle.can_node.specs.Events.Step.{Within}
-use Rattle.can_node.specs.Driving.{Drives}
-use Rattle.can_node.specs.NextBit.{now_in, open_bits}
-use Rattle.can_node.specs.Inside.Standing.{context_of, HasBody, IsKept}
-use Rattle.can_node.specs.Inside.Stages.{At}
+use Rattle.can_node_rules.specs.Bits.{Bit}
+use Rattle.can_node_rules.specs.Context.{ContextValue, is_transmitter, is_held}
+use Rattle.can_node_rules.specs.Pieces.{Place}
+use Rattle.can_node_rules.specs.Record.{RecordEntry}
+use Rattle.can_node_rules.specs.Record.RecordEntry.{OneBit}
+use Rattle.can_node_rules.specs.Counting.{at_bit}
+use Rattle.can_node_rules.specs.Cut.{FinishedPiece, none_yet, counted}
+use Rattle.can_node_rules.specs.Events.{Step, stepped, lost_in, received_in, fault_in, ended_in, events_of}
+use Rattle.can_node_rules.specs.Events.Step.{Within}
+use Rattle.can_node_rules.specs.Driving.{Drives}
+use Rattle.can_node_rules.specs.NextBit.{now_in, open_bits}
+use Rattle.can_node.specs.Standing.{context_of, HasBody}
+use Rattle.can_node_rules.specs.KeptContexts.{IsKept}
+use Rattle.can_node.specs.Stages.{At}
 use Rattle.can_node.specs.Inside.Quiet.{IsQuietTurn}
-use Rattle.can_node.specs.Stands.{StandsAt, Leads, Samples, closed_by, nothing, is_receiving}
-use Rattle.can_node.proofs.OneCut.GoOn.{stays_end}
+use Rattle.can_node.specs.Stands.{StandsAt, Leads, Samples, is_receiving}
+use Rattle.can_node_rules.specs.Outcomes.{closed_by, nothing}
+use Rattle.can_node_rules.proofs.OneCut.GoOn.{stays_end}
 use Rattle.can_node.proofs.Machine.BitStands.{goes_stands}
 use Rattle.can_node.proofs.Machine.Sampling.{bits_push}
 use Rattle.can_node.proofs.Machine.Shown.{at_shown, kept_shown, next_shown}
-use Rattle.can_node.proofs.Machine.Told.{told_all, drives_once}
+use Rattle.can_node.proofs.Machine.Told.{told_all}
+use Rattle.can_node_rules.proofs.OneCut.DrivenLevels.{drives_once}
 
 -- ---- what it tells
 

@@ -1,12 +1,12 @@
 -- A quiet bit outside a frame, and an idle one.
 use Rattle.std.proofs.Common.{◌≡◌, ◌<◌, not, true, false, nat_le, Option, Some, None}
 use Rattle.std.proofs.Common.{List, [], ◌∷◌, ◌++◌, refl, ap, sym, subst, ◌∙◌}
-use Rattle.can_bits.specs.declared.level.Level.{Level}
-use Rattle.can_bits.specs.declared.level.Level.TheVariants.{Dominant, Recessive}
+use Rattle.can_levels.specs.declared.level.Level.{Level}
+use Rattle.can_levels.specs.declared.level.Level.TheVariants.{Dominant, Recessive}
 use Rattle.can_bits.specs.declared.shift.Shift.{Shift}
-use Rattle.can_bits.specs.Fields.{is_recessive}
-use Rattle.can_node.specs.declared.request.Request.{Request}
-use Rattle.can_node.specs.declared.role.Role.TheVariants.{Receiver}
+use Rattle.can_levels.specs.Fields.{is_recessive}
+use Rattle.can_node_rules.specs.declared.request.Request.{Request}
+use Rattle.can_node_rules.specs.declared.role.Role.TheVariants.{Receiver}
 use Rattle.can_node.specs.declared.stage.Stage.{Stage}
 use Rattle.can_node.specs.declared.stage.Stage.TheVariants.{InReset as StageInReset, Integrating as StageIntegrating}
 use Rattle.can_node.specs.declared.stage.Stage.TheVariants.{BusIdle as StageBusIdle, InFrame as StageInFrame}
@@ -14,30 +14,31 @@ use Rattle.can_node.specs.declared.stage.Stage.TheVariants.{LastEofBit as StageL
 use Rattle.can_node.specs.declared.stage.Stage.TheVariants.{InDelimiter as StageInDelimiter}
 use Rattle.can_node.specs.declared.stage.Stage.TheVariants.{InInterframeSpace as StageInInterframeSpace}
 use Rattle.can_node.specs.declared.node.Node.{Node}
-use Rattle.can_node.specs.Bits.{Bit}
-use Rattle.can_node.specs.Context.{ContextValue, is_transmitter, is_held}
-use Rattle.can_node.specs.Pieces.{Place, sent_at}
-use Rattle.can_node.specs.Pieces.Place.{AtReset, AtIntegration, AtIdle}
-use Rattle.can_node.specs.Pieces.Place.{AtLastEofBit, AtFlag, AtDelimiter, AtInterframeSpace}
-use Rattle.can_node.specs.Pieces.Piece.{IdleBit}
-use Rattle.can_node.specs.Record.{bits_in}
-use Rattle.can_node.specs.Record.RecordEntry.{OneBit}
-use Rattle.can_node.specs.Counting.{at_bit, first_bit}
-use Rattle.can_node.specs.Table.{Row}
-use Rattle.can_node.specs.Cut.{none_yet, counted, tagged}
-use Rattle.can_node.specs.Events.{lost_in, lost_as, ended_in, events_of}
-use Rattle.can_node.specs.Events.Step.{Finishes}
-use Rattle.can_node.specs.Driving.{Drives, IdleDrives}
-use Rattle.can_node.specs.Effects.{along, closed}
-use Rattle.can_node.specs.Inside.Standing.{context_of}
-use Rattle.can_node.specs.Inside.Stages.{At}
+use Rattle.can_node_rules.specs.Bits.{Bit}
+use Rattle.can_node_rules.specs.Context.{ContextValue, is_transmitter, is_held}
+use Rattle.can_node_rules.specs.Pieces.{Place, sent_at}
+use Rattle.can_node_rules.specs.Pieces.Place.{AtReset, AtIntegration, AtIdle}
+use Rattle.can_node_rules.specs.Pieces.Place.{AtLastEofBit, AtFlag, AtDelimiter, AtInterframeSpace}
+use Rattle.can_node_rules.specs.Pieces.Piece.{IdleBit}
+use Rattle.can_node_rules.specs.Record.{bits_in}
+use Rattle.can_node_rules.specs.Record.RecordEntry.{OneBit}
+use Rattle.can_node_rules.specs.Counting.{at_bit, first_bit}
+use Rattle.can_node_rules.specs.Table.{Row}
+use Rattle.can_node_rules.specs.Cut.{none_yet, counted, tagged}
+use Rattle.can_node_rules.specs.Events.{lost_in, lost_as, ended_in, events_of}
+use Rattle.can_node_rules.specs.Events.Step.{Finishes}
+use Rattle.can_node_rules.specs.Driving.{Drives, IdleDrives}
+use Rattle.can_node_rules.specs.Effects.{along, closed}
+use Rattle.can_node.specs.Standing.{context_of}
+use Rattle.can_node.specs.Stages.{At}
 use Rattle.can_node.specs.Inside.Quiet.{TurnsQuietly, is_outside}
-use Rattle.can_node.specs.Stands.{StandsAt, Leads, Samples, nothing, is_receiving}
-use Rattle.can_node.proofs.OneCut.GoOn.{stays_end}
+use Rattle.can_node.specs.Stands.{StandsAt, Leads, Samples, is_receiving}
+use Rattle.can_node_rules.specs.Outcomes.{nothing}
+use Rattle.can_node_rules.proofs.OneCut.GoOn.{stays_end}
 use Rattle.can_node.proofs.Machine.Ats.{at_is}
 use Rattle.can_node.proofs.Machine.BitStands.{closes_stands}
 use Rattle.can_node.proofs.Machine.IdleTurns.{idle_still}
-use Rattle.can_node.proofs.Machine.Told.{drives_once}
+use Rattle.can_node_rules.proofs.OneCut.DrivenLevels.{drives_once}
 use Rattle.can_node.proofs.Machine.Quiet.{none_ends, nothing_told, leads_quietly, IsQuiet}
 
 -- what is driven at a place, where more bits don't change it

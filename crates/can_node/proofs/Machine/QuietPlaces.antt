@@ -2,32 +2,33 @@
 use Rattle.std.proofs.Common.{◌≡◌, ◌==◌, ◌&&◌, ◌||◌, ◌+◌, ◌-◌, not, ℕ, Bool, true, false, Some, None}
 use Rattle.std.proofs.Common.{fold, List, [], ◌∷◌, ◌++◌, refl, ap, sym, subst, ◌∙◌, if◌then◌else◌}
 use Rattle.std.proofs.lemmas.Bool.{ne_eqb, and_right, or_parts}
-use Rattle.can_bits.specs.declared.level.Level.{Level}
-use Rattle.can_bits.specs.declared.level.Level.TheVariants.{Dominant, Recessive}
+use Rattle.can_levels.specs.declared.level.Level.{Level}
+use Rattle.can_levels.specs.declared.level.Level.TheVariants.{Dominant, Recessive}
 use Rattle.can_bits.specs.declared.shift.Shift.{Shift}
-use Rattle.can_bits.specs.Fields.{is_recessive}
+use Rattle.can_levels.specs.Fields.{is_recessive}
 use Rattle.can_node.specs.declared.stage.Stage.{Stage}
 use Rattle.can_node.specs.declared.stage.Stage.TheVariants.{InReset as StageInReset, Integrating as StageIntegrating}
 use Rattle.can_node.specs.declared.stage.Stage.TheVariants.{InFlag as StageInFlag, InDelimiter as StageInDelimiter}
 use Rattle.can_node.specs.declared.stage.Stage.TheVariants.{InInterframeSpace as StageInInterframeSpace}
 use Rattle.can_node.specs.declared.after_bit.AfterBit.{AfterBit}
 use Rattle.can_node.specs.declared.after_bit.AfterBit.TheVariants.{InPiece, Ended}
-use Rattle.can_node.specs.declared.flag_kind.FlagKind.{FlagKind}
-use Rattle.can_node.specs.declared.role.Role.{Role}
-use Rattle.can_node.specs.Bits.{Bit, seen_of}
-use Rattle.can_node.specs.Context.{ContextValue}
-use Rattle.can_node.specs.Pieces.{Place}
-use Rattle.can_node.specs.Pieces.Place.{AtReset, AtIntegration, AtFlag, AtDelimiter, AtInterframeSpace}
-use Rattle.can_node.specs.Counting.{at_bit, integration_bit, next_run, ends_eleven, if_ack_step_owed}
-use Rattle.can_node.specs.Counting.{delimiter_level, if_eighth, after_error_flag, unless_listening, more_by}
-use Rattle.can_node.specs.Events.{lost_in}
-use Rattle.can_node.specs.Inside.Standing.{is_nil}
-use Rattle.can_node.specs.Inside.Stages.{At, IsInDelimiter}
+use Rattle.can_node_rules.specs.declared.flag_kind.FlagKind.{FlagKind}
+use Rattle.can_node_rules.specs.declared.role.Role.{Role}
+use Rattle.can_node_rules.specs.Bits.{Bit, seen_of}
+use Rattle.can_node_rules.specs.Context.{ContextValue}
+use Rattle.can_node_rules.specs.Pieces.{Place}
+use Rattle.can_node_rules.specs.Pieces.Place.{AtReset, AtIntegration, AtFlag, AtDelimiter, AtInterframeSpace}
+use Rattle.can_node_rules.specs.Counting.{at_bit, integration_bit, next_run, ends_eleven, if_ack_step_owed}
+use Rattle.can_node_rules.specs.Counting.{delimiter_level, if_eighth, after_error_flag, unless_listening, more_by}
+use Rattle.can_node_rules.specs.Events.{lost_in}
+use Rattle.can_node_rules.specs.KeptContexts.{is_nil}
+use Rattle.can_node.specs.Stages.{At}
+use Rattle.can_node_rules.specs.UnfinishedPieces.{IsInDelimiter}
 use Rattle.can_node.specs.Inside.Quiet.{IsQuietTurn, stage_in}
 use Rattle.can_node.specs.Inside.Turns.{IsTurn}
 use Rattle.can_node.proofs.Machine.Ats.{at_is}
 use Rattle.can_node.proofs.Machine.Counts.{count_integration, first_bit_is}
-use Rattle.can_node.proofs.Waiting.Delimiters.{eighth_is}
+use Rattle.can_node_rules.proofs.Waiting.Delimiters.{eighth_is}
 
 -- ---- the turn
 

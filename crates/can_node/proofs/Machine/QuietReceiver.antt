@@ -2,37 +2,40 @@
 use Rattle.std.proofs.Common.{◌≡◌, ◌≢◌, ◌&&◌, ◌||◌, not, ℕ, false, nat_lt, None, List, [], ◌∷◌, ◌++◌}
 use Rattle.std.proofs.Common.{refl, ap, sym, subst, ◌∙◌, arith}
 use Rattle.std.proofs.lemmas.Bool.{ltb-false}
-use Rattle.can_bits.specs.declared.level.Level.{Level}
-use Rattle.can_bits.specs.declared.level.Level.TheVariants.{Dominant, Recessive}
+use Rattle.can_levels.specs.declared.level.Level.{Level}
+use Rattle.can_levels.specs.declared.level.Level.TheVariants.{Dominant, Recessive}
 use Rattle.can_bits.specs.declared.shift.Shift.{Shift}
 use Rattle.can_frame.specs.Frame.{FrameValue}
-use Rattle.can_bits.specs.Fields.{is_recessive}
-use Rattle.can_bits.specs.Acknowledging.{IsAckDue}
-use Rattle.can_bits.specs.Reading.{IsPastPart}
+use Rattle.can_levels.specs.Fields.{is_recessive}
+use Rattle.can_levels.specs.Acknowledging.{IsAckDue}
+use Rattle.can_levels.specs.Reading.{IsPastPart}
 use Rattle.can_bits.specs.Shifts.{StandsFor}
-use Rattle.can_bits.specs.Streaming.{IsReadable, IsRightInside, IsRightPast, IsLineButFor, ShowsFrame, IsOver}
-use Rattle.can_node.specs.declared.role.Role.{Role}
-use Rattle.can_node.specs.declared.role.Role.TheVariants.{Receiver}
+use Rattle.can_levels.specs.Streaming.{IsReadable, IsRightInside, IsRightPast, IsLineButFor, ShowsFrame, IsOver}
+use Rattle.can_node_rules.specs.declared.role.Role.{Role}
+use Rattle.can_node_rules.specs.declared.role.Role.TheVariants.{Receiver}
 use Rattle.can_node.specs.declared.stage.Stage.{Stage}
 use Rattle.can_node.specs.declared.stage.Stage.TheVariants.{InFrame as StageInFrame}
 use Rattle.can_node.specs.declared.after_bit.AfterBit.TheVariants.{InPiece}
 use Rattle.can_node.specs.declared.node.Node.{Node}
-use Rattle.can_node.specs.Bits.{Bit, dominant_bit, seen_of}
-use Rattle.can_node.specs.Context.{ContextValue}
-use Rattle.can_node.specs.Pieces.{Place}
-use Rattle.can_node.specs.Counting.{at_bit, frame_bit, if_acknowledged, rec_acknowledged}
-use Rattle.can_node.specs.Events.{lost_in, lost_as}
-use Rattle.can_node.specs.Frames.{Acknowledges}
-use Rattle.can_node.specs.Driving.{Drives, FrameDrives}
-use Rattle.can_node.specs.Inside.Standing.{context_of, IsKept}
-use Rattle.can_node.specs.Inside.Stages.{At, IsReading, IsReceiving, frame_bits}
-use Rattle.can_node.proofs.Bits.FramePlaces.{frame_seen}
+use Rattle.can_node_rules.specs.Bits.{Bit, dominant_bit, seen_of}
+use Rattle.can_node_rules.specs.Context.{ContextValue}
+use Rattle.can_node_rules.specs.Pieces.{Place}
+use Rattle.can_node_rules.specs.Counting.{at_bit, frame_bit, if_acknowledged, rec_acknowledged}
+use Rattle.can_node_rules.specs.Events.{lost_in, lost_as}
+use Rattle.can_node_rules.specs.Frames.{Acknowledges}
+use Rattle.can_node_rules.specs.Driving.{Drives, FrameDrives}
+use Rattle.can_node.specs.Standing.{context_of}
+use Rattle.can_node_rules.specs.KeptContexts.{IsKept}
+use Rattle.can_node.specs.Stages.{At, IsReading}
+use Rattle.can_node_rules.specs.UnfinishedPieces.{IsReceiving, frame_bits}
+use Rattle.can_node_rules.proofs.Bits.FramePlaces.{frame_seen}
 use Rattle.can_node.proofs.Machine.Ats.{at_is}
 use Rattle.can_node.proofs.Machine.FrameDrives.{receiving_drives}
-use Rattle.can_node.proofs.Machine.FrameTurns.{frame_at, frame_drives, lost_at, place_of, receive_turn}
+use Rattle.can_node.proofs.Machine.FrameTurns.{frame_drives, lost_at, receive_turn}
+use Rattle.can_node_rules.proofs.Bits.FrameSites.{frame_at, place_of}
 use Rattle.can_node.proofs.Machine.Quiet.{GoesQuietly, IsQuiet}
-use Rattle.can_node.proofs.Reception.Acknowledging.{acknowledges_once, quiet}
-use Rattle.can_node.proofs.Reception.ReceiverBits.{goes_on, kept_if, not_lost_driven}
+use Rattle.can_node_rules.proofs.Reception.Acknowledging.{acknowledges_once, quiet}
+use Rattle.can_node_rules.proofs.Reception.ReceiverBits.{goes_on, kept_if, not_lost_driven}
 
 -- within the stuffed part no acknowledgement is due
 pub inside_not_due : (l : List Level) (x : Level) → IsRightInside l x → IsAckDue l → ⊥

@@ -1,35 +1,38 @@
 -- The quick way of a bit of a frame for its transmitter.
 use Rattle.std.proofs.Common.{◌≡◌, ◌↔◌, IsTrue, Bool, true, false, Option, Some, None, is_some}
 use Rattle.std.proofs.Common.{List, [], ◌∷◌, ◌++◌, refl, ap, sym, subst, ◌∙◌, if◌then◌else◌}
-use Rattle.can_bits.specs.declared.level.Level.{Level}
-use Rattle.can_bits.specs.declared.level.Level.TheVariants.{Dominant, Recessive}
+use Rattle.can_levels.specs.declared.level.Level.{Level}
+use Rattle.can_levels.specs.declared.level.Level.TheVariants.{Dominant, Recessive}
 use Rattle.can_bits.specs.declared.shift.Shift.{Shift}
-use Rattle.can_bits.specs.Acknowledging.{IsAckDue}
-use Rattle.can_bits.specs.Places.{is_early_stuff}
+use Rattle.can_levels.specs.Acknowledging.{IsAckDue}
+use Rattle.can_levels.specs.Places.{is_early_stuff}
 use Rattle.can_bits.specs.Shifts.{StandsFor}
-use Rattle.can_bits.specs.Streaming.{IsReadable, IsRightInside, ShowsFrame, IsOver}
+use Rattle.can_levels.specs.Streaming.{IsReadable, IsRightInside, ShowsFrame, IsOver}
 use Rattle.can_bits.proofs.PackedLevels.{IsNextOf}
-use Rattle.can_node.specs.declared.role.Role.TheVariants.{Transmitter}
-use Rattle.can_node.specs.declared.request.Request.{Request}
+use Rattle.can_node_rules.specs.declared.role.Role.TheVariants.{Transmitter}
+use Rattle.can_node_rules.specs.declared.request.Request.{Request}
 use Rattle.can_node.specs.declared.stage.Stage.{Stage}
 use Rattle.can_node.specs.declared.stage.Stage.TheVariants.{InFrame as StageInFrame}
 use Rattle.can_node.specs.declared.after_bit.AfterBit.TheVariants.{InPiece}
 use Rattle.can_node.specs.declared.node.Node.{Node}
-use Rattle.can_node.specs.Bits.{Bit, seen_of}
-use Rattle.can_node.specs.Context.{ContextValue}
-use Rattle.can_node.specs.Pieces.{Place}
-use Rattle.can_node.specs.Counting.{at_bit, frame_bit, lost_by, lose}
-use Rattle.can_node.specs.Events.{lost_in, lost_as}
-use Rattle.can_node.specs.Driving.{Drives, TransmitsNext}
-use Rattle.can_node.specs.Inside.Standing.{context_of, HasBody, IsKept}
-use Rattle.can_node.specs.Inside.Stages.{At, IsFramePlace, IsReading, IsTransmitting, frame_bits}
-use Rattle.can_node.specs.Inside.TransmitterCauses.{cause_of_bit, kind_of}
+use Rattle.can_node_rules.specs.Bits.{Bit, seen_of}
+use Rattle.can_node_rules.specs.Context.{ContextValue}
+use Rattle.can_node_rules.specs.Pieces.{Place}
+use Rattle.can_node_rules.specs.Counting.{at_bit, frame_bit, lost_by, lose}
+use Rattle.can_node_rules.specs.Events.{lost_in, lost_as}
+use Rattle.can_node_rules.specs.Driving.{Drives, TransmitsNext}
+use Rattle.can_node.specs.Standing.{context_of, HasBody}
+use Rattle.can_node_rules.specs.KeptContexts.{IsKept}
+use Rattle.can_node.specs.Stages.{At, IsReading}
+use Rattle.can_node_rules.specs.UnfinishedPieces.{IsFramePlace, IsTransmitting, frame_bits}
+use Rattle.can_node_rules.specs.TransmitterCauses.{cause_of_bit, kind_of}
 use Rattle.can_node.proofs.Machine.Ats.{at_is}
 use Rattle.can_node.proofs.Machine.FrameDrives.{transmitting_drives}
-use Rattle.can_node.proofs.Machine.FrameTurns.{frame_at, lost_at, transmit_turn, transmitting_by}
+use Rattle.can_node.proofs.Machine.FrameTurns.{lost_at, transmit_turn, transmitting_by}
+use Rattle.can_node_rules.proofs.Bits.FrameSites.{frame_at}
 use Rattle.can_node.proofs.Machine.QuietReceiver.{inside_not_due}
 use Rattle.can_node.proofs.Machine.Quiet.{GoesQuietly, IsQuiet}
-use Rattle.can_node.proofs.Transmission.OwnBits.{IsOwnBit}
+use Rattle.can_node_rules.proofs.Transmission.OwnBits.{IsOwnBit}
 use Rattle.can_node.proofs.Transmission.TransmitterBits.{transmits_more}
 
 -- with a level that is seen as driven nothing is lost

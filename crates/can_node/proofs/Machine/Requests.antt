@@ -2,9 +2,9 @@
 use Rattle.std.proofs.Common.{◌++◌, ◌∷◌, [], ◌≡◌, ◌≢◌, Bool, true, false, Option, Some}
 use Rattle.std.proofs.Common.{None, is_some, List, refl, ap, sym, subst, ◌∙◌, if◌then◌else◌}
 use Rattle.can_bits.specs.declared.shift.Shift.{Shift}
-use Rattle.can_node.specs.declared.role.Role.{Role}
-use Rattle.can_node.specs.declared.role.Role.TheVariants.{Transmitter}
-use Rattle.can_node.specs.declared.request.Request.{Request}
+use Rattle.can_node_rules.specs.declared.role.Role.{Role}
+use Rattle.can_node_rules.specs.declared.role.Role.TheVariants.{Transmitter}
+use Rattle.can_node_rules.specs.declared.request.Request.{Request}
 use Rattle.can_node.specs.declared.stage.Stage.{Stage}
 use Rattle.can_node.specs.declared.stage.Stage.TheVariants.{InReset as StageInReset, Integrating as StageIntegrating}
 use Rattle.can_node.specs.declared.stage.Stage.TheVariants.{BusIdle as StageBusIdle, InFrame as StageInFrame}
@@ -12,19 +12,21 @@ use Rattle.can_node.specs.declared.stage.Stage.TheVariants.{LastEofBit as StageL
 use Rattle.can_node.specs.declared.stage.Stage.TheVariants.{InDelimiter as StageInDelimiter}
 use Rattle.can_node.specs.declared.stage.Stage.TheVariants.{InInterframeSpace as StageInInterframeSpace}
 use Rattle.can_node.specs.declared.node.Node.{Node}
-use Rattle.can_node.specs.Bits.{Bit}
-use Rattle.can_node.specs.Context.{ContextValue, is_transmitter, is_held}
-use Rattle.can_node.specs.Pieces.{Place}
-use Rattle.can_node.specs.Pieces.Place.{AtReset}
-use Rattle.can_node.specs.Record.{RecordEntry, bits_in}
-use Rattle.can_node.specs.Record.RecordEntry.{Send, Abort}
-use Rattle.can_node.specs.Effects.{with_send, with_abort, keep_first, is_in_progress}
-use Rattle.can_node.specs.Cut.{FinishedPiece}
-use Rattle.can_node.specs.Inside.Standing.{context_of}
-use Rattle.can_node.specs.Inside.Stages.{At, ByRole, IsInFrame, IsReading, IsTransmitting}
-use Rattle.can_node.specs.Inside.Stages.IsInFrame.{from_idle, from_sof}
-use Rattle.can_node.specs.NextBit.{now_in}
-use Rattle.can_node.specs.Stands.{FollowsAt, StandsAt, abort_of}
+use Rattle.can_node_rules.specs.Bits.{Bit}
+use Rattle.can_node_rules.specs.Context.{ContextValue, is_transmitter, is_held}
+use Rattle.can_node_rules.specs.Pieces.{Place}
+use Rattle.can_node_rules.specs.Pieces.Place.{AtReset}
+use Rattle.can_node_rules.specs.Record.{RecordEntry, bits_in}
+use Rattle.can_node_rules.specs.Record.RecordEntry.{Send, Abort}
+use Rattle.can_node_rules.specs.Effects.{with_send, with_abort, keep_first, is_in_progress}
+use Rattle.can_node_rules.specs.Cut.{FinishedPiece}
+use Rattle.can_node.specs.Standing.{context_of}
+use Rattle.can_node.specs.Stages.{At, IsReading}
+use Rattle.can_node_rules.specs.UnfinishedPieces.{ByRole, IsInFrame, IsTransmitting}
+use Rattle.can_node_rules.specs.UnfinishedPieces.IsInFrame.{from_idle, from_sof}
+use Rattle.can_node_rules.specs.NextBit.{now_in}
+use Rattle.can_node.specs.Stands.{FollowsAt, StandsAt}
+use Rattle.can_node_rules.specs.Outcomes.{abort_of}
 use Rattle.can_node.proofs.Machine.Between.{changed, send_between, abort_between, between_stands}
 use Rattle.can_node.proofs.Machine.Shown.{at_shown}
 

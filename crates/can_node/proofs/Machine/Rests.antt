@@ -3,8 +3,8 @@ use Rattle.std.proofs.Common.{◌≡◌, Bool, true, false, None, List, [], ◌�
 use Rattle.std.proofs.Common.{map, refl, sym, ap, ◌∙◌, subst, append_assoc}
 use Rattle.std.specs.Prelude.{if◌then◌else◌}
 use Rattle.std.proofs.lemmas.List.{append_cancel_left}
-use Rattle.can_bits.specs.declared.level.Level.{Level}
-use Rattle.can_bits.specs.declared.level.Level.TheVariants.{Recessive}
+use Rattle.can_levels.specs.declared.level.Level.{Level}
+use Rattle.can_levels.specs.declared.level.Level.TheVariants.{Recessive}
 use Rattle.can_bits.specs.declared.shift.Shift.{Shift}
 use Rattle.can_node.specs.declared.stage.Stage.{Stage}
 use Rattle.can_node.specs.declared.stage.Stage.TheVariants.{InReset as StageInReset, Integrating as StageIntegrating}
@@ -12,32 +12,34 @@ use Rattle.can_node.specs.declared.stage.Stage.TheVariants.{BusIdle as StageBusI
 use Rattle.can_node.specs.declared.stage.Stage.TheVariants.{LastEofBit as StageLastEofBit, InFlag as StageInFlag}
 use Rattle.can_node.specs.declared.stage.Stage.TheVariants.{InDelimiter as StageInDelimiter}
 use Rattle.can_node.specs.declared.stage.Stage.TheVariants.{InInterframeSpace as StageInInterframeSpace}
-use Rattle.can_node.specs.declared.bit_events.BitEvents.{BitEvents}
+use Rattle.can_node_rules.specs.declared.bit_events.BitEvents.{BitEvents}
 use Rattle.can_node.specs.declared.node.Node.{Node}
-use Rattle.can_node.specs.Bits.{Bit, recessive_bit, recessive_bits}
-use Rattle.can_node.specs.Context.{ContextValue, fresh}
-use Rattle.can_node.specs.Pieces.{Place, Piece}
-use Rattle.can_node.specs.Pieces.Place.{AtReset}
-use Rattle.can_node.specs.Record.{RecordEntry, bits_in}
-use Rattle.can_node.specs.Record.RecordEntry.{OneBit, BusOff}
-use Rattle.can_node.specs.Table.{Row}
-use Rattle.can_node.specs.Cut.{IsOpenAt, From, FinishedPiece, Count, counted, none_yet}
-use Rattle.can_node.specs.Cut.IsOpenAt.{rests}
-use Rattle.can_node.specs.Cut.From.{here, on}
-use Rattle.can_node.specs.Events.{Step, received_in}
-use Rattle.can_node.specs.Events.Step.{Within, Finishes}
-use Rattle.can_node.specs.NextBit.{now_in, DrivesIn}
-use Rattle.can_node.specs.Inside.Stages.{At, IsInFrame}
-use Rattle.can_node.specs.Stands.{StandsAt, Leads, InReset, Rests, closed_by}
+use Rattle.can_node_rules.specs.Bits.{Bit, recessive_bit, recessive_bits}
+use Rattle.can_node_rules.specs.Context.{ContextValue, fresh}
+use Rattle.can_node_rules.specs.Pieces.{Place, Piece}
+use Rattle.can_node_rules.specs.Pieces.Place.{AtReset}
+use Rattle.can_node_rules.specs.Record.{RecordEntry, bits_in}
+use Rattle.can_node_rules.specs.Record.RecordEntry.{OneBit, BusOff}
+use Rattle.can_node_rules.specs.Table.{Row}
+use Rattle.can_node_rules.specs.Cut.{IsOpenAt, From, FinishedPiece, Count, counted, none_yet}
+use Rattle.can_node_rules.specs.Cut.IsOpenAt.{rests}
+use Rattle.can_node_rules.specs.Cut.From.{here, on}
+use Rattle.can_node_rules.specs.Events.{Step, received_in}
+use Rattle.can_node_rules.specs.Events.Step.{Within, Finishes}
+use Rattle.can_node_rules.specs.NextBit.{now_in, DrivesIn}
+use Rattle.can_node.specs.Stages.{At}
+use Rattle.can_node_rules.specs.UnfinishedPieces.{IsInFrame}
+use Rattle.can_node.specs.Stands.{StandsAt, Leads, InReset, Rests}
+use Rattle.can_node_rules.specs.Outcomes.{closed_by}
 use Rattle.can_node.proofs.Machine.Ats.{at_is}
-use Rattle.can_node.proofs.OneCut.GoOn.{open_end, rest_open, no_rest_piece}
-use Rattle.can_node.proofs.OneCut.Entries.{open_part, outer_once, outer_not_within}
-use Rattle.can_node.proofs.OneCut.Entries.IsOuter.{off}
-use Rattle.can_node.proofs.OneCut.Ways.{Way, Between, Closing, way_of}
-use Rattle.can_node.proofs.OneCut.Ways.Way.{finishes, comes, closes}
-use Rattle.can_node.proofs.OneCut.Ways.Closing.{by_start, by_stop, by_off, by_off_after}
-use Rattle.can_node.proofs.OneCut.CutOnce.{move_or_open}
-use Rattle.can_node.proofs.OneCut.Through.{Through, goes_through}
+use Rattle.can_node_rules.proofs.OneCut.GoOn.{open_end, rest_open, no_rest_piece}
+use Rattle.can_node_rules.proofs.OneCut.Entries.{open_part, outer_once, outer_not_within}
+use Rattle.can_node_rules.proofs.OneCut.Entries.IsOuter.{off}
+use Rattle.can_node_rules.proofs.OneCut.Ways.{Way, Between, Closing, way_of}
+use Rattle.can_node_rules.proofs.OneCut.Ways.Way.{finishes, comes, closes}
+use Rattle.can_node_rules.proofs.OneCut.Ways.Closing.{by_start, by_stop, by_off, by_off_after}
+use Rattle.can_node_rules.proofs.OneCut.CutOnce.{move_or_open}
+use Rattle.can_node_rules.proofs.OneCut.Through.{Through, goes_through}
 use Rattle.can_node.proofs.Machine.Sampling.{rest_drives}
 
 -- ---- in reset

@@ -2,35 +2,37 @@
 use Rattle.std.proofs.Common.{◌≡◌, ◌<◌, ◌≤◌, ◌&&◌, not, ℕ, Bool, nat_le, Option}
 use Rattle.std.proofs.Common.{is_some, List, [], ◌∷◌, ◌++◌, ap, ap₂, sym, subst, ◌∙◌}
 use Rattle.can_frame.specs.Frame.{FrameValue}
-use Rattle.can_bits.specs.declared.level.Level.{Level}
-use Rattle.can_bits.specs.declared.segment.Segment.{Segment}
+use Rattle.can_levels.specs.declared.level.Level.{Level}
+use Rattle.can_levels.specs.declared.segment.Segment.{Segment}
 use Rattle.can_bits.specs.declared.shift.Shift.{Shift}
-use Rattle.can_node.specs.declared.cause.Cause.{Cause}
-use Rattle.can_node.specs.declared.outcome.Outcome.{Outcome}
+use Rattle.can_node_rules.specs.declared.cause.Cause.{Cause}
+use Rattle.can_node_rules.specs.declared.outcome.Outcome.{Outcome}
 use Rattle.can_node.specs.declared.stage.Stage.{Stage}
 use Rattle.can_node.specs.declared.stage.Stage.TheVariants.{InReset as StageInReset}
 use Rattle.can_node.specs.declared.context.Context.{Context}
 use Rattle.can_node.specs.declared.after_bit.AfterBit.{AfterBit}
 use Rattle.can_node.specs.declared.node.Node.{Node}
-use Rattle.can_node.specs.Bits.{Bit}
-use Rattle.can_node.specs.Context.{ContextValue, is_transmitter, is_held}
-use Rattle.can_node.specs.Pieces.{Place}
-use Rattle.can_node.specs.Record.{RecordEntry, bits_in}
-use Rattle.can_node.specs.Counting.{at_bit}
-use Rattle.can_node.specs.Effects.{along}
-use Rattle.can_node.specs.Cut.{FinishedPiece, IsOnBus}
-use Rattle.can_node.specs.Events.{Step, lost_in, received_in, fault_in, sends_in, ended_in}
-use Rattle.can_node.specs.Driving.{Drives}
+use Rattle.can_node_rules.specs.Bits.{Bit}
+use Rattle.can_node_rules.specs.Context.{ContextValue, is_transmitter, is_held}
+use Rattle.can_node_rules.specs.Pieces.{Place}
+use Rattle.can_node_rules.specs.Record.{RecordEntry, bits_in}
+use Rattle.can_node_rules.specs.Counting.{at_bit}
+use Rattle.can_node_rules.specs.Effects.{along}
+use Rattle.can_node_rules.specs.Cut.{FinishedPiece, IsOnBus}
+use Rattle.can_node_rules.specs.Events.{Step, lost_in, received_in, fault_in, sends_in, ended_in}
+use Rattle.can_node_rules.specs.Driving.{Drives}
 use Rattle.can_bits.specs.declared.sent_body.SentBody.{SentBody}
-use Rattle.can_node.specs.Inside.Standing.{context_of, IsKept, HasBody}
-use Rattle.can_node.specs.Inside.Stages.{At}
+use Rattle.can_node.specs.Standing.{context_of, HasBody}
+use Rattle.can_node_rules.specs.KeptContexts.{IsKept}
+use Rattle.can_node.specs.Stages.{At}
 use Rattle.can_node.specs.Inside.Turns.{IsMade, IsTurn, AtAfter, step_of, resulted, off_if}
-use Rattle.can_node.specs.NextBit.{DrivesIn}
+use Rattle.can_node_rules.specs.NextBit.{DrivesIn}
 use Rattle.can_node.specs.Stands.{StandsAt, Leads}
-use Rattle.can_node.proofs.OneCut.GoOn.{stays_end}
+use Rattle.can_node_rules.proofs.OneCut.GoOn.{stays_end}
 use Rattle.can_node.proofs.Machine.Shown.{DrivesBy, at_shown, kept_shown, next_shown}
 use Rattle.can_node.proofs.Machine.Held.{HoldsBack, bit_held, resulted_held, off_held}
-use Rattle.can_node.proofs.Machine.Told.{made_of, told_all, stepped_is, held_is, bit_few, drives_once}
+use Rattle.can_node.proofs.Machine.Told.{made_of, told_all, stepped_is, held_is, bit_few}
+use Rattle.can_node_rules.proofs.OneCut.DrivenLevels.{drives_once}
 use Rattle.can_node.proofs.Machine.Sampled.{leads_by}
 
 -- what a node's step says of each piece that it may stand in

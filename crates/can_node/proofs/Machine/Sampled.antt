@@ -8,22 +8,23 @@ use Rattle.can_node.specs.declared.stage.Stage.{Stage}
 use Rattle.can_node.specs.declared.stage.Stage.TheVariants.{InReset as StageInReset}
 use Rattle.can_node.specs.declared.after_bit.AfterBit.{AfterBit}
 use Rattle.can_node.specs.declared.after_bit.AfterBit.TheVariants.{InPiece, Ended}
-use Rattle.can_node.specs.declared.bit_events.BitEvents.{BitEvents}
+use Rattle.can_node_rules.specs.declared.bit_events.BitEvents.{BitEvents}
 use Rattle.can_node.specs.declared.node.Node.{Node}
-use Rattle.can_node.specs.Bits.{Bit}
-use Rattle.can_node.specs.Context.{ContextValue, is_transmitter}
-use Rattle.can_node.specs.Record.{RecordEntry, bits_in}
-use Rattle.can_node.specs.Record.RecordEntry.{OneBit, BusOff}
-use Rattle.can_node.specs.Pieces.{Place}
-use Rattle.can_node.specs.Counting.{at_bit}
-use Rattle.can_node.specs.Effects.{along, closed, with_off}
-use Rattle.can_node.specs.Cut.{IsCut, FinishedPiece, none_yet, counted, tagged}
-use Rattle.can_node.specs.Events.{events_of}
-use Rattle.can_node.specs.Driving.{Drives}
-use Rattle.can_node.specs.Inside.Standing.{context_of, HasBody}
-use Rattle.can_node.specs.NextBit.{now_in, open_bits}
+use Rattle.can_node_rules.specs.Bits.{Bit}
+use Rattle.can_node_rules.specs.Context.{ContextValue, is_transmitter}
+use Rattle.can_node_rules.specs.Record.{RecordEntry, bits_in}
+use Rattle.can_node_rules.specs.Record.RecordEntry.{OneBit, BusOff}
+use Rattle.can_node_rules.specs.Pieces.{Place}
+use Rattle.can_node_rules.specs.Counting.{at_bit}
+use Rattle.can_node_rules.specs.Effects.{along, closed, with_off}
+use Rattle.can_node_rules.specs.Cut.{IsCut, FinishedPiece, none_yet, counted, tagged}
+use Rattle.can_node_rules.specs.Events.{events_of}
+use Rattle.can_node_rules.specs.Driving.{Drives}
+use Rattle.can_node.specs.Standing.{context_of, HasBody}
+use Rattle.can_node_rules.specs.NextBit.{now_in, open_bits}
 use Rattle.can_node.specs.Inside.Turns.{IsTurn, AtAfter, piece_of, next_of, step_of, resulted, off_if}
-use Rattle.can_node.specs.Stands.{StandsAt, FollowsAt, Leads, closed_by, entries_of}
+use Rattle.can_node.specs.Stands.{StandsAt, FollowsAt, Leads}
+use Rattle.can_node_rules.specs.Outcomes.{closed_by, entries_of}
 use Rattle.can_node.proofs.Machine.Shown.{DrivesBy, stands_up}
 use Rattle.can_node.proofs.Machine.BitStands.{goes_stands, closes_stands, off_goes, off_closes}
 

@@ -1,39 +1,40 @@
 -- A bit more of a record.
 use Rattle.std.proofs.Common.{◌≡◌, ◌≢◌, ◌⊎◌, List, [], ◌∷◌, ◌++◌, map, refl, ap, sym, subst, ◌∙◌, inl, inr}
 use Rattle.std.proofs.lemmas.List.{map-append}
-use Rattle.can_bits.specs.declared.level.Level.{Level}
-use Rattle.can_bits.specs.declared.level.Level.TheVariants.{Recessive}
+use Rattle.can_levels.specs.declared.level.Level.{Level}
+use Rattle.can_levels.specs.declared.level.Level.TheVariants.{Recessive}
 use Rattle.can_bits.specs.declared.shift.Shift.{Shift}
-use Rattle.can_node.specs.declared.role.Role.{Role}
-use Rattle.can_node.specs.declared.role.Role.TheVariants.{Transmitter, Receiver}
+use Rattle.can_node_rules.specs.declared.role.Role.{Role}
+use Rattle.can_node_rules.specs.declared.role.Role.TheVariants.{Transmitter, Receiver}
 use Rattle.can_node.specs.declared.stage.Stage.{Stage}
 use Rattle.can_node.specs.declared.stage.Stage.TheVariants.{InReset as StageInReset, Integrating as StageIntegrating}
 use Rattle.can_node.specs.declared.stage.Stage.TheVariants.{BusIdle as StageBusIdle, InFrame as StageInFrame}
 use Rattle.can_node.specs.declared.stage.Stage.TheVariants.{LastEofBit as StageLastEofBit, InFlag as StageInFlag}
 use Rattle.can_node.specs.declared.stage.Stage.TheVariants.{InDelimiter as StageInDelimiter}
 use Rattle.can_node.specs.declared.stage.Stage.TheVariants.{InInterframeSpace as StageInInterframeSpace}
-use Rattle.can_node.specs.Bits.{Bit, recessive_bit, recessive_bits}
-use Rattle.can_node.specs.Context.{ContextValue}
-use Rattle.can_node.specs.Pieces.{Place}
-use Rattle.can_node.specs.Pieces.Place.{AtReset, AtIntegration, AtIdle, AtLastEofBit}
-use Rattle.can_node.specs.Pieces.Place.{AtFlag, AtDelimiter, AtInterframeSpace}
-use Rattle.can_node.specs.Record.{RecordEntry, bits_in}
-use Rattle.can_node.specs.Record.RecordEntry.{OneBit}
-use Rattle.can_node.specs.Record.Inner.{none_left, samples}
-use Rattle.can_node.specs.Effects.{along}
-use Rattle.can_node.specs.Cut.{IsUnfinished, IsOpenAt}
-use Rattle.can_node.specs.Cut.IsOpenAt.{rests, begun}
-use Rattle.can_node.specs.Driving.{Drives}
-use Rattle.can_node.specs.Inside.Stages.{At, ByRole, IsInFrame}
-use Rattle.can_node.proofs.Machine.Along.{bits_both}
-use Rattle.can_node.proofs.OneCut.GoOn.{inner_both, inner_open, begins_open, rest_open}
-use Rattle.can_node.proofs.Waiting.Integrations.{open_integrating}
+use Rattle.can_node_rules.specs.Bits.{Bit, recessive_bit, recessive_bits}
+use Rattle.can_node_rules.specs.Context.{ContextValue}
+use Rattle.can_node_rules.specs.Pieces.{Place}
+use Rattle.can_node_rules.specs.Pieces.Place.{AtReset, AtIntegration, AtIdle, AtLastEofBit}
+use Rattle.can_node_rules.specs.Pieces.Place.{AtFlag, AtDelimiter, AtInterframeSpace}
+use Rattle.can_node_rules.specs.Record.{RecordEntry, bits_in}
+use Rattle.can_node_rules.specs.Record.RecordEntry.{OneBit}
+use Rattle.can_node_rules.specs.Record.Inner.{none_left, samples}
+use Rattle.can_node_rules.specs.Effects.{along}
+use Rattle.can_node_rules.specs.Cut.{IsUnfinished, IsOpenAt}
+use Rattle.can_node_rules.specs.Cut.IsOpenAt.{rests, begun}
+use Rattle.can_node_rules.specs.Driving.{Drives}
+use Rattle.can_node.specs.Stages.{At}
+use Rattle.can_node_rules.specs.UnfinishedPieces.{ByRole, IsInFrame}
+use Rattle.can_node_rules.proofs.Machine.Along.{bits_both}
+use Rattle.can_node_rules.proofs.OneCut.GoOn.{inner_both, inner_open, begins_open, rest_open}
+use Rattle.can_node_rules.proofs.Waiting.Integrations.{open_integrating}
 use Rattle.can_node.proofs.Waiting.Flags.{open_flagging}
-use Rattle.can_node.proofs.Waiting.Delimiters.{open_delimiting}
-use Rattle.can_node.proofs.Waiting.InterframeSpaces.{open_interframe}
-use Rattle.can_node.proofs.Reception.Unfinished.{open_receiving}
-use Rattle.can_node.proofs.Transmission.TransmitterFronts.{open_transmitting}
-use Rattle.can_node.proofs.Machine.FrameTurns.{place_of}
+use Rattle.can_node_rules.proofs.Waiting.Delimiters.{open_delimiting}
+use Rattle.can_node_rules.proofs.Waiting.InterframeSpaces.{open_interframe}
+use Rattle.can_node_rules.proofs.Reception.Unfinished.{open_receiving}
+use Rattle.can_node_rules.proofs.Transmission.TransmitterFronts.{open_transmitting}
+use Rattle.can_node_rules.proofs.Bits.FrameSites.{place_of}
 
 -- ---- a piece under way isn't whole
 

@@ -1,30 +1,31 @@
 -- The segment that a node shows of its next bit.
 use Rattle.std.proofs.Common.{◌≡◌, ◌≢◌, Bool, Some, None, List, [], refl, subst, sym}
-use Rattle.can_bits.specs.declared.level.Level.{Level}
-use Rattle.can_bits.specs.declared.segment.Segment.{Segment}
-use Rattle.can_bits.specs.declared.segment.Segment.TheVariants.{EndOfFrame}
+use Rattle.can_levels.specs.declared.level.Level.{Level}
+use Rattle.can_levels.specs.declared.segment.Segment.{Segment}
+use Rattle.can_levels.specs.declared.segment.Segment.TheVariants.{EndOfFrame}
 use Rattle.can_bits.specs.declared.shift.Shift.{Shift}
-use Rattle.can_bits.specs.Segments.{IsNext}
+use Rattle.can_levels.specs.Segments.{IsNext}
 use Rattle.can_bits.specs.Shifts.{StandsFor}
-use Rattle.can_bits.specs.Streaming.{IsReadable}
-use Rattle.can_node.specs.declared.role.Role.{Role}
-use Rattle.can_node.specs.declared.role.Role.TheVariants.{Transmitter, Receiver}
+use Rattle.can_levels.specs.Streaming.{IsReadable}
+use Rattle.can_node_rules.specs.declared.role.Role.{Role}
+use Rattle.can_node_rules.specs.declared.role.Role.TheVariants.{Transmitter, Receiver}
 use Rattle.can_node.specs.declared.stage.Stage.{Stage}
 use Rattle.can_node.specs.declared.stage.Stage.TheVariants.{InReset as StageInReset, Integrating as StageIntegrating}
 use Rattle.can_node.specs.declared.stage.Stage.TheVariants.{BusIdle as StageBusIdle, InFrame as StageInFrame}
 use Rattle.can_node.specs.declared.stage.Stage.TheVariants.{LastEofBit as StageLastEofBit, InFlag as StageInFlag}
 use Rattle.can_node.specs.declared.stage.Stage.TheVariants.{InDelimiter as StageInDelimiter}
 use Rattle.can_node.specs.declared.stage.Stage.TheVariants.{InInterframeSpace as StageInInterframeSpace}
-use Rattle.can_node.specs.Bits.{Bit, seen_of}
-use Rattle.can_node.specs.Context.{ContextValue}
-use Rattle.can_node.specs.Pieces.{Place}
-use Rattle.can_node.specs.Pieces.Place.{AtReset, AtIntegration, AtIdle, AtLastEofBit, AtFlag, AtDelimiter}
-use Rattle.can_node.specs.Pieces.Place.{AtInterframeSpace}
-use Rattle.can_node.specs.Inside.Stages.{At, ByRole, IsInFrame, IsReading, frame_bits}
-use Rattle.can_node.specs.Inside.Stages.IsInFrame.{from_idle, from_sof}
+use Rattle.can_node_rules.specs.Bits.{Bit, seen_of}
+use Rattle.can_node_rules.specs.Context.{ContextValue}
+use Rattle.can_node_rules.specs.Pieces.{Place}
+use Rattle.can_node_rules.specs.Pieces.Place.{AtReset, AtIntegration, AtIdle, AtLastEofBit, AtFlag, AtDelimiter}
+use Rattle.can_node_rules.specs.Pieces.Place.{AtInterframeSpace}
+use Rattle.can_node.specs.Stages.{At, IsReading}
+use Rattle.can_node_rules.specs.UnfinishedPieces.{ByRole, IsInFrame, frame_bits}
+use Rattle.can_node_rules.specs.UnfinishedPieces.IsInFrame.{from_idle, from_sof}
 use Rattle.can_node.specs.NextField.{SegmentAt}
 use Rattle.can_node.proofs.Machine.FrameTurns.{transmitting_readable}
-use Rattle.can_node.proofs.Reception.ReceiverBits.{receiving_readable}
+use Rattle.can_node_rules.proofs.Reception.ReceiverBits.{receiving_readable}
 
 -- what either role has seen of a frame can go on
 pub readable_by : (role : Role) (c now : ContextValue) (place : Place) (bits : List Bit) →

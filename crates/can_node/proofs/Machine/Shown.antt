@@ -1,8 +1,8 @@
 -- What a node that stands at a record shows of it.
 use Rattle.std.proofs.Common.{◌≡◌, ◌≢◌, Bool, true, false, not, is_some, Option, Some, None}
 use Rattle.std.proofs.Common.{List, [], nat_lt, refl, ap, sym, subst, ◌∙◌, if◌then◌else◌, ℕ}
-use Rattle.can_bits.specs.declared.level.Level.{Level}
-use Rattle.can_bits.specs.declared.level.Level.TheVariants.{Recessive}
+use Rattle.can_levels.specs.declared.level.Level.{Level}
+use Rattle.can_levels.specs.declared.level.Level.TheVariants.{Recessive}
 use Rattle.can_bits.specs.declared.shift.Shift.{Shift}
 use Rattle.can_node.specs.declared.stage.Stage.{Stage}
 use Rattle.can_node.specs.declared.stage.Stage.TheVariants.{InReset as StageInReset, Integrating as StageIntegrating}
@@ -10,26 +10,28 @@ use Rattle.can_node.specs.declared.stage.Stage.TheVariants.{BusIdle as StageBusI
 use Rattle.can_node.specs.declared.stage.Stage.TheVariants.{LastEofBit as StageLastEofBit, InFlag as StageInFlag}
 use Rattle.can_node.specs.declared.stage.Stage.TheVariants.{InDelimiter as StageInDelimiter}
 use Rattle.can_node.specs.declared.stage.Stage.TheVariants.{InInterframeSpace as StageInInterframeSpace}
-use Rattle.can_node.specs.declared.phase.Phase.{Phase}
-use Rattle.can_node.specs.declared.phase.Phase.TheVariants.{Reset, Waiting, Idle, Frame, Flag}
-use Rattle.can_node.specs.declared.phase.Phase.TheVariants.{Delimiter, Intermission, Suspension}
+use Rattle.can_node_rules.specs.declared.phase.Phase.{Phase}
+use Rattle.can_node_rules.specs.declared.phase.Phase.TheVariants.{Reset, Waiting, Idle, Frame, Flag}
+use Rattle.can_node_rules.specs.declared.phase.Phase.TheVariants.{Delimiter, Intermission, Suspension}
 use Rattle.can_node.specs.declared.node.Node.{Node}
-use Rattle.can_node.specs.declared.request.Request.{Request}
-use Rattle.can_node.specs.Bits.{Bit}
-use Rattle.can_node.specs.Context.{ContextValue, is_held}
-use Rattle.can_node.specs.Pieces.{Place}
-use Rattle.can_node.specs.Pieces.Place.{AtIdle, AtInterframeSpace}
-use Rattle.can_node.specs.Record.{RecordEntry, bits_in}
-use Rattle.can_node.specs.Cut.{FinishedPiece}
-use Rattle.can_node.specs.Driving.{Drives, phase_at}
-use Rattle.can_node.specs.Inside.Standing.{context_of, HasBody, IsKept}
-use Rattle.can_node.specs.Inside.Stages.{At, IsInFrame, IsInInterframeSpace}
-use Rattle.can_node.specs.Inside.Stages.IsInFrame.{from_idle, from_sof}
-use Rattle.can_node.specs.NextBit.{now_in, rests_in}
+use Rattle.can_node_rules.specs.declared.request.Request.{Request}
+use Rattle.can_node_rules.specs.Bits.{Bit}
+use Rattle.can_node_rules.specs.Context.{ContextValue, is_held}
+use Rattle.can_node_rules.specs.Pieces.{Place}
+use Rattle.can_node_rules.specs.Pieces.Place.{AtIdle, AtInterframeSpace}
+use Rattle.can_node_rules.specs.Record.{RecordEntry, bits_in}
+use Rattle.can_node_rules.specs.Cut.{FinishedPiece}
+use Rattle.can_node_rules.specs.Driving.{Drives, phase_at}
+use Rattle.can_node.specs.Standing.{context_of, HasBody}
+use Rattle.can_node_rules.specs.KeptContexts.{IsKept}
+use Rattle.can_node.specs.Stages.{At}
+use Rattle.can_node_rules.specs.UnfinishedPieces.{IsInFrame, IsInInterframeSpace}
+use Rattle.can_node_rules.specs.UnfinishedPieces.IsInFrame.{from_idle, from_sof}
+use Rattle.can_node_rules.specs.NextBit.{now_in, rests_in}
 use Rattle.can_node.specs.Stands.{FollowsAt, StandsAt, phase_of_stage}
-use Rattle.can_node.proofs.Machine.Along.{is_kept}
+use Rattle.can_node_rules.proofs.Machine.Along.{is_kept}
 use Rattle.can_node.proofs.Machine.Ats.{at_is}
-use Rattle.can_node.proofs.Waiting.InterframeSpaces.{interframe_length}
+use Rattle.can_node_rules.proofs.Waiting.InterframeSpaces.{interframe_length}
 
 -- where the node is, by its own fields
 pub at_shown : (node : Node) (entries : List RecordEntry) (found : List FinishedPiece)

@@ -1,25 +1,26 @@
 -- Nodes that read one frame together: what one reader takes is a bit of each of them.
 use Rattle.std.proofs.Common.{◌≡◌, ◌&&◌, Bool, true, List, [], ◌∷◌, ◌++◌, refl, sym, ap, ◌∙◌, subst}
 use Rattle.std.proofs.lemmas.Bool.{and_parts}
-use Rattle.can_bits.specs.declared.level.Level.{Level}
+use Rattle.can_levels.specs.declared.level.Level.{Level}
 use Rattle.can_bits.specs.declared.shift.Shift.{Shift}
 use Rattle.can_bits.specs.Sending.{TakesInside}
 use Rattle.can_bits.proofs.PackedLevels.{IsNextOf}
 use Rattle.can_node.specs.declared.node.Node.{Node}
-use Rattle.can_node.specs.declared.role.Role.{Role}
-use Rattle.can_node.specs.declared.role.Role.TheVariants.{Receiver, Transmitter}
+use Rattle.can_node_rules.specs.declared.role.Role.{Role}
+use Rattle.can_node_rules.specs.declared.role.Role.TheVariants.{Receiver, Transmitter}
 use Rattle.can_node.specs.declared.stage.Stage.{Stage}
 use Rattle.can_node.specs.declared.stage.Stage.TheVariants.{InReset, Integrating, BusIdle, InFrame, LastEofBit, InFlag}
 use Rattle.can_node.specs.declared.stage.Stage.TheVariants.{InDelimiter, InInterframeSpace}
-use Rattle.can_node.specs.Bits.{Bit}
-use Rattle.can_node.specs.Context.{ContextValue, is_transmitter}
-use Rattle.can_node.specs.Pieces.{Place}
-use Rattle.can_node.specs.Stands.{Samples, ShowsSame, is_receiving, nothing}
+use Rattle.can_node_rules.specs.Bits.{Bit}
+use Rattle.can_node_rules.specs.Context.{ContextValue, is_transmitter}
+use Rattle.can_node_rules.specs.Pieces.{Place}
+use Rattle.can_node.specs.Stands.{Samples, ShowsSame, is_receiving}
+use Rattle.can_node_rules.specs.Outcomes.{nothing}
 use Rattle.can_node.specs.Together.{IsApart, ReadsBit, SendsBit, is_in_frame, is_sending, kept_level, reader_of}
 use Rattle.can_node.specs.Together.{reading_as}
 use Rattle.can_node.specs.Inside.Quiet.{IsQuietTurn, is_outside}
-use Rattle.can_node.specs.Inside.Stages.{At}
-use Rattle.can_node.specs.Inside.Standing.{context_of}
+use Rattle.can_node.specs.Stages.{At}
+use Rattle.can_node.specs.Standing.{context_of}
 use Rattle.can_node.proofs.Machine.Ats.{at_is}
 use Rattle.can_node.proofs.Machine.Quiet.{quietly}
 use Rattle.can_node.proofs.Machine.QuietOutside.{outside_drives}

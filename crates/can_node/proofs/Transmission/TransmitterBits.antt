@@ -2,35 +2,35 @@
 use Rattle.std.proofs.Common.{◌≡◌, ◌+◌, ◌↔◌, IsTrue, ℕ, Bool, true, false, Some, None}
 use Rattle.std.proofs.Common.{List, [], ◌∷◌, ◌++◌, length, refl, ap, sym, subst, ◌∙◌}
 use Rattle.std.proofs.lemmas.List.{append-nil, nil_from_length}
-use Rattle.can_bits.specs.declared.level.Level.{Level}
-use Rattle.can_bits.specs.declared.level.Level.TheVariants.{Dominant, Recessive}
-use Rattle.can_bits.specs.declared.segment.Segment.{Segment}
-use Rattle.can_bits.specs.Segments.{IsNext}
-use Rattle.can_bits.specs.Line.{tail}
-use Rattle.can_bits.specs.Places.{place_code}
-use Rattle.can_bits.specs.Streaming.{IsReadable, IsOver}
-use Rattle.can_node.specs.declared.cause.Cause.{Cause}
-use Rattle.can_node.specs.declared.fault_site.FaultSite.TheVariants.{InTransmission}
-use Rattle.can_node.specs.declared.request.Request.{Request}
-use Rattle.can_node.specs.Bits.{Bit, seen_of, driven_of}
-use Rattle.can_node.specs.Context.{ContextValue}
-use Rattle.can_node.specs.Frames.{GoesWell, Transmits}
-use Rattle.can_node.specs.Frames.Transmits.{failed}
-use Rattle.can_node.specs.Pieces.{Place}
-use Rattle.can_node.specs.Pieces.Place.{AtFlag, AtInterframeSpace}
-use Rattle.can_node.specs.Pieces.Piece.{Transmission, Fault}
-use Rattle.can_node.specs.Inside.Stages.{IsTransmitting, frame_bits}
-use Rattle.can_node.specs.Table.{Row}
-use Rattle.can_node.specs.Inside.TransmitterCauses.{cause_of_bit, kind_of}
+use Rattle.can_levels.specs.declared.level.Level.{Level}
+use Rattle.can_levels.specs.declared.level.Level.TheVariants.{Dominant, Recessive}
+use Rattle.can_levels.specs.declared.segment.Segment.{Segment}
+use Rattle.can_levels.specs.Segments.{IsNext}
+use Rattle.can_levels.specs.Line.{tail}
+use Rattle.can_levels.specs.Places.{place_code}
+use Rattle.can_levels.specs.Streaming.{IsReadable, IsOver}
+use Rattle.can_node_rules.specs.declared.cause.Cause.{Cause}
+use Rattle.can_node_rules.specs.declared.fault_site.FaultSite.TheVariants.{InTransmission}
+use Rattle.can_node_rules.specs.declared.request.Request.{Request}
+use Rattle.can_node_rules.specs.Bits.{Bit, seen_of, driven_of}
+use Rattle.can_node_rules.specs.Context.{ContextValue}
+use Rattle.can_node_rules.specs.Frames.{GoesWell, Transmits}
+use Rattle.can_node_rules.specs.Frames.Transmits.{failed}
+use Rattle.can_node_rules.specs.Pieces.{Place}
+use Rattle.can_node_rules.specs.Pieces.Place.{AtFlag, AtInterframeSpace}
+use Rattle.can_node_rules.specs.Pieces.Piece.{Transmission, Fault}
+use Rattle.can_node_rules.specs.UnfinishedPieces.{IsTransmitting, frame_bits}
+use Rattle.can_node_rules.specs.Table.{Row}
+use Rattle.can_node_rules.specs.TransmitterCauses.{cause_of_bit, kind_of}
 use Rattle.can_node.specs.Inside.Turns.{GoesOnAs}
-use Rattle.can_node.proofs.Transmission.AfterLoss.{receives_on, lost_not_over}
-use Rattle.can_node.proofs.Bits.FramePlaces.{row_own, frame_more, frame_seen}
-use Rattle.can_node.proofs.Transmission.TransmitterFronts.{sends_all}
-use Rattle.can_node.proofs.Transmission.WellNext.{driven_push, IsOneMore, well_next, well_slot}
-use Rattle.can_node.proofs.Transmission.WellNext.{as_much_left, well_readable, over_at_end, end_at_over}
-use Rattle.can_node.proofs.Transmission.WrongBits.{IsFine, cause_fails, none_fine}
-use Rattle.can_node.proofs.Transmission.WrongBits.IsFine.{loses, fits_slot, is_seen}
-use Rattle.can_node.proofs.Transmission.OwnBits.{IsOwnBit, line_next, slot_here, here_slot}
+use Rattle.can_node_rules.proofs.Transmission.AfterLoss.{receives_on, lost_not_over}
+use Rattle.can_node_rules.proofs.Bits.FramePlaces.{row_own, frame_more, frame_seen}
+use Rattle.can_node_rules.proofs.Transmission.TransmitterFronts.{sends_all}
+use Rattle.can_node_rules.proofs.Transmission.WellNext.{driven_push, IsOneMore, well_next, well_slot}
+use Rattle.can_node_rules.proofs.Transmission.WellNext.{as_much_left, well_readable, over_at_end, end_at_over}
+use Rattle.can_node_rules.proofs.Transmission.WrongBits.{IsFine, cause_fails, none_fine}
+use Rattle.can_node_rules.proofs.Transmission.WrongBits.IsFine.{loses, fits_slot, is_seen}
+use Rattle.can_node_rules.proofs.Transmission.OwnBits.{IsOwnBit, line_next, slot_here, here_slot}
 
 -- ---- a fault
 pub transmits_fault : {c now : ContextValue} {place : Place} {bits : List Bit} {driven seen : Level}

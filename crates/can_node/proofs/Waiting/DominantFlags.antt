@@ -3,26 +3,26 @@ use Rattle.std.proofs.Common.{◌≡◌, ◌+◌, ◌-◌, ◌<◌, ◌≤◌, �
 use Rattle.std.proofs.Common.{List, [], ◌∷◌, ◌++◌, replicate, refl, ap, sym, subst, ◌∙◌, arith}
 use Rattle.std.proofs.lemmas.Bool.Decides.{nat_tests}
 use Rattle.std.proofs.lemmas.List.{replicate-append-replicate}
-use Rattle.can_bits.specs.declared.level.Level.{Level}
-use Rattle.can_bits.specs.declared.level.Level.TheVariants.{Dominant, Recessive}
-use Rattle.can_bits.specs.declared.segment.Segment.{Segment}
+use Rattle.can_levels.specs.declared.level.Level.{Level}
+use Rattle.can_levels.specs.declared.level.Level.TheVariants.{Dominant, Recessive}
+use Rattle.can_levels.specs.declared.segment.Segment.{Segment}
 use Rattle.can_bits.specs.declared.shift.Shift.{Shift}
 use Rattle.can_node.specs.declared.after_bit.AfterBit.TheVariants.{InPiece, Ended}
-use Rattle.can_node.specs.declared.cause.Cause.TheVariants.{Bit as BitError}
+use Rattle.can_node_rules.specs.declared.cause.Cause.TheVariants.{Bit as BitError}
 use Rattle.can_node.specs.declared.ending.Ending.TheVariants.{Flag as EndingFlag}
 use Rattle.can_node.specs.declared.stage.Stage.TheVariants.{InFlag as StageInFlag}
-use Rattle.can_node.specs.declared.fault_site.FaultSite.TheVariants.{InFlag}
-use Rattle.can_node.specs.declared.flag_kind.FlagKind.{FlagKind}
-use Rattle.can_node.specs.Bits.{Bit, dominant_bit, dominant_bits}
-use Rattle.can_node.specs.Context.{ContextValue, flag_level}
-use Rattle.can_node.specs.Pieces.Place.{AtFlag, AtDelimiter}
-use Rattle.can_node.specs.Pieces.Piece.{Fault, Flag}
-use Rattle.can_node.specs.Table.{Row, flag_segment}
-use Rattle.can_node.specs.Table.Row.{flag, flag_fault}
-use Rattle.can_node.specs.Cut.{IsUnfinished}
-use Rattle.can_node.specs.Inside.Stages.{IsInDominantFlag, IsInFlag}
+use Rattle.can_node_rules.specs.declared.fault_site.FaultSite.TheVariants.{InFlag}
+use Rattle.can_node_rules.specs.declared.flag_kind.FlagKind.{FlagKind}
+use Rattle.can_node_rules.specs.Bits.{Bit, dominant_bit, dominant_bits}
+use Rattle.can_node_rules.specs.Context.{ContextValue, flag_level}
+use Rattle.can_node_rules.specs.Pieces.Place.{AtFlag, AtDelimiter}
+use Rattle.can_node_rules.specs.Pieces.Piece.{Fault, Flag}
+use Rattle.can_node_rules.specs.Table.{Row, flag_segment}
+use Rattle.can_node_rules.specs.Table.Row.{flag, flag_fault}
+use Rattle.can_node_rules.specs.Cut.{IsUnfinished}
+use Rattle.can_node_rules.specs.UnfinishedPieces.{IsInDominantFlag, IsInFlag}
 use Rattle.can_node.specs.Inside.Turns.{IsTurn, one_more}
-use Rattle.can_node.proofs.Bits.DrivenAlike.{forces_on}
+use Rattle.can_node_rules.proofs.Bits.DrivenAlike.{forces_on}
 
 -- six dominant levels are a flag
 flag_ends : (c : ContextValue) (n : ℕ) (seen : Level) (bits : List Bit) → flag_level c ≡ Dominant → seen ≡ Dominant →

@@ -1,14 +1,14 @@
 -- Flags of either level: how they begin, and that they go on.
 use Rattle.std.proofs.Common.{◌≡◌, ℕ, List, [], replicate, refl, arith}
-use Rattle.can_bits.specs.declared.level.Level.{Level}
-use Rattle.can_bits.specs.declared.level.Level.TheVariants.{Dominant, Recessive}
-use Rattle.can_bits.specs.Stuffing.{EndsInEqual}
-use Rattle.can_node.specs.Bits.{Bit}
-use Rattle.can_node.specs.Context.{ContextValue, flag_level}
-use Rattle.can_node.specs.Pieces.Place.{AtFlag}
-use Rattle.can_node.specs.Cut.{IsUnfinished}
-use Rattle.can_node.specs.Inside.Stages.{IsInFlag}
-use Rattle.can_node.proofs.Waiting.Firsts.{first_by_length}
+use Rattle.can_levels.specs.declared.level.Level.{Level}
+use Rattle.can_levels.specs.declared.level.Level.TheVariants.{Dominant, Recessive}
+use Rattle.can_levels.specs.Stuffing.{EndsInEqual}
+use Rattle.can_node_rules.specs.Bits.{Bit}
+use Rattle.can_node_rules.specs.Context.{ContextValue, flag_level}
+use Rattle.can_node_rules.specs.Pieces.Place.{AtFlag}
+use Rattle.can_node_rules.specs.Cut.{IsUnfinished}
+use Rattle.can_node_rules.specs.UnfinishedPieces.{IsInFlag}
+use Rattle.can_node_rules.proofs.Waiting.Firsts.{first_by_length}
 use Rattle.can_node.proofs.Waiting.DominantFlags.{open_dominant_flag}
 use Rattle.can_node.proofs.Waiting.PassiveFlags.{six_long, open_passive_flag}
 

@@ -3,25 +3,25 @@ use Rattle.std.proofs.Common.{◌≡◌, ◌≢◌, ◌+◌, ◌-◌, ◌<◌, �
 use Rattle.std.proofs.Common.{List, [], ◌∷◌, ◌++◌, replicate, length, refl, ap, sym, subst, ◌∙◌, arith, append_assoc}
 use Rattle.std.proofs.lemmas.Bool.Decides.{nat_tests}
 use Rattle.std.proofs.lemmas.List.{length-replicate, length-append}
-use Rattle.can_bits.specs.declared.level.Level.{Level}
-use Rattle.can_bits.specs.declared.level.Level.TheVariants.{Recessive}
+use Rattle.can_levels.specs.declared.level.Level.{Level}
+use Rattle.can_levels.specs.declared.level.Level.TheVariants.{Recessive}
 use Rattle.can_bits.specs.declared.shift.Shift.{Shift}
-use Rattle.can_bits.specs.Stuffing.{EndsInEqual}
+use Rattle.can_levels.specs.Stuffing.{EndsInEqual}
 use Rattle.can_node.specs.declared.after_bit.AfterBit.TheVariants.{InPiece, Ended}
 use Rattle.can_node.specs.declared.ending.Ending.TheVariants.{Flag as EndingFlag}
 use Rattle.can_node.specs.declared.stage.Stage.TheVariants.{InFlag as StageInFlag}
-use Rattle.can_node.specs.Bits.{Bit, recessive_bit, recessive_bits, IsFirst}
-use Rattle.can_node.specs.Context.{ContextValue, flag_level}
-use Rattle.can_node.specs.Pieces.Place.{AtFlag, AtDelimiter}
-use Rattle.can_node.specs.Pieces.Piece.{Flag}
-use Rattle.can_node.specs.Table.{Row}
-use Rattle.can_node.specs.Table.Row.{flag_passive}
-use Rattle.can_node.specs.Cut.{IsUnfinished}
-use Rattle.can_node.specs.Inside.Stages.{IsInPassiveFlag, IsInFlag}
+use Rattle.can_node_rules.specs.Bits.{Bit, recessive_bit, recessive_bits, IsFirst}
+use Rattle.can_node_rules.specs.Context.{ContextValue, flag_level}
+use Rattle.can_node_rules.specs.Pieces.Place.{AtFlag, AtDelimiter}
+use Rattle.can_node_rules.specs.Pieces.Piece.{Flag}
+use Rattle.can_node_rules.specs.Table.{Row}
+use Rattle.can_node_rules.specs.Table.Row.{flag_passive}
+use Rattle.can_node_rules.specs.Cut.{IsUnfinished}
+use Rattle.can_node_rules.specs.UnfinishedPieces.{IsInPassiveFlag, IsInFlag}
 use Rattle.can_node.specs.Inside.Turns.{IsTurn, one_more}
-use Rattle.can_node.proofs.Bits.DrivenAlike.{receives_on}
-use Rattle.can_node.proofs.Waiting.Firsts.{no_front_yet, one_on, last_on, first_run}
-use Rattle.can_node.proofs.Waiting.Firsts.{same_end, ends_as, before_end, end_as, push_run}
+use Rattle.can_node_rules.proofs.Bits.DrivenAlike.{receives_on}
+use Rattle.can_node_rules.proofs.Waiting.Firsts.{no_front_yet, one_on, last_on, first_run}
+use Rattle.can_node_rules.proofs.Waiting.Firsts.{same_end, ends_as, before_end, end_as, push_run}
 
 -- a list that ends in six equal levels has six
 pub six_long : (m : List Level) → EndsInEqual 6 m → 6 ≤ length m

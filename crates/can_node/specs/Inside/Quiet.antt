@@ -1,6 +1,6 @@
 -- A bit in which nothing happens that a node shows.
 use Rattle.std.specs.Prelude.{◌≡◌, Bool, true, false, Option, Some, None, List, [], ◌∷◌, ◌++◌}
-use Rattle.can_bits.specs.declared.level.Level.{Level}
+use Rattle.can_levels.specs.declared.level.Level.{Level}
 use Rattle.can_bits.specs.declared.shift.Shift.{Shift}
 use Rattle.can_node.specs.declared.stage.Stage.{Stage}
 use Rattle.can_node.specs.declared.stage.Stage.TheVariants.{InReset, Integrating, BusIdle, InFrame, LastEofBit}
@@ -8,14 +8,15 @@ use Rattle.can_node.specs.declared.stage.Stage.TheVariants.{InFlag, InDelimiter,
 use Rattle.can_node.specs.declared.after_bit.AfterBit.{AfterBit}
 use Rattle.can_node.specs.declared.after_bit.AfterBit.TheVariants.{InPiece, Ended}
 use Rattle.can_node.specs.declared.node.Node.{Node}
-use Rattle.can_node.specs.Bits.{Bit}
-use Rattle.can_node.specs.Context.{ContextValue}
-use Rattle.can_node.specs.Pieces.{Place}
-use Rattle.can_node.specs.Counting.{at_bit}
-use Rattle.can_node.specs.Driving.{Drives}
-use Rattle.can_node.specs.Events.{lost_in}
-use Rattle.can_node.specs.Inside.Standing.{context_of, IsKept}
-use Rattle.can_node.specs.Inside.Stages.{At}
+use Rattle.can_node_rules.specs.Bits.{Bit}
+use Rattle.can_node_rules.specs.Context.{ContextValue}
+use Rattle.can_node_rules.specs.Pieces.{Place}
+use Rattle.can_node_rules.specs.Counting.{at_bit}
+use Rattle.can_node_rules.specs.Driving.{Drives}
+use Rattle.can_node_rules.specs.Events.{lost_in}
+use Rattle.can_node.specs.Standing.{context_of}
+use Rattle.can_node_rules.specs.KeptContexts.{IsKept}
+use Rattle.can_node.specs.Stages.{At}
 
 -- the piece under way goes on with the bit, to this stage and reader; arbitration isn't lost, and no counter, role or
 -- request changes

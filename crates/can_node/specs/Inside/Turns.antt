@@ -1,10 +1,11 @@
 -- What a bit makes of the piece under way.
-use Rattle.can_node.specs.declared.request.Request.{Request}
+use Rattle.can_node_rules.specs.declared.request.Request.{Request}
 use Rattle.can_node.specs.declared.node.Node.{Node}
 use Rattle.can_bits.specs.Shifts.{StandsFor}
-use Rattle.can_node.specs.Inside.Standing.{context_of, HasBody, IsKept}
-use Rattle.can_node.specs.Driving.{Drives, TransmitsNext}
-use Rattle.can_node.specs.Frames.{Acknowledges}
+use Rattle.can_node.specs.Standing.{context_of, HasBody}
+use Rattle.can_node_rules.specs.KeptContexts.{IsKept}
+use Rattle.can_node_rules.specs.Driving.{Drives, TransmitsNext}
+use Rattle.can_node_rules.specs.Frames.{Acknowledges}
 use Rattle.std.specs.Prelude.{◌≡◌, ◌+◌, ℕ, Bool, nat_le, nat_lt, true, false}
 use Rattle.std.specs.Prelude.{if◌then◌else◌, List, [], ◌∷◌, ◌++◌, is_some, Some}
 use Rattle.can_bits.specs.declared.shift.Shift.{Shift}
@@ -15,26 +16,28 @@ use Rattle.can_node.specs.declared.ending.Ending.TheVariants.{Fault as EndingFau
 use Rattle.can_node.specs.declared.ending.Ending.TheVariants.{Flag as EndingFlag, Delimiter as EndingDelimiter}
 use Rattle.can_node.specs.declared.ending.Ending.TheVariants.{InterframeSpace as EndingInterframeSpace, Sof, Overload}
 use Rattle.can_node.specs.declared.overload_condition.OverloadCondition.{OverloadCondition}
-use Rattle.can_node.specs.declared.overload_condition.OverloadCondition.TheVariants.{Intermission, LastDelimiterBit}
+use Rattle.can_node.specs.declared.overload_condition.OverloadCondition.TheVariants.{Intermission}
+use Rattle.can_node.specs.declared.overload_condition.OverloadCondition.TheVariants.{LastDelimiterBit}
 use Rattle.can_node.specs.declared.overload_condition.OverloadCondition.TheVariants.{LastEofBit as LastEof}
-use Rattle.can_bits.specs.declared.level.Level.{Level}
-use Rattle.can_bits.specs.declared.level.Level.TheVariants.{Dominant, Recessive}
+use Rattle.can_levels.specs.declared.level.Level.{Level}
+use Rattle.can_levels.specs.declared.level.Level.TheVariants.{Dominant, Recessive}
 use Rattle.can_node.specs.declared.after_bit.AfterBit.{AfterBit}
 use Rattle.can_node.specs.declared.after_bit.AfterBit.TheVariants.{InPiece, Ended}
 use Rattle.can_node.specs.declared.stage.Stage.TheVariants.{InFrame as StageInFrame, InFlag as StageInFlag}
-use Rattle.can_node.specs.Bits.{Bit, seen_of}
-use Rattle.can_node.specs.Context.{ContextValue}
-use Rattle.can_node.specs.Pieces.{Place, Piece}
-use Rattle.can_node.specs.Pieces.Place.{AtIdle, AfterSof, AtLastEofBit, AtFlag, AtDelimiter, AtInterframeSpace}
-use Rattle.can_node.specs.Pieces.Piece.{Integration, IdleBit, Reception, Transmission, Fault, LastEofBit, Flag}
-use Rattle.can_node.specs.Pieces.Piece.{Delimiter, InterframeSpace, InterframeSpaceWithSof, InterframeSpaceBroken}
-use Rattle.can_node.specs.Table.{Row}
-use Rattle.can_node.specs.Counting.{at_bit, lost_by}
-use Rattle.can_node.specs.Effects.{closed, with_off}
+use Rattle.can_node_rules.specs.Bits.{Bit, seen_of}
+use Rattle.can_node_rules.specs.Context.{ContextValue}
+use Rattle.can_node_rules.specs.Pieces.{Place, Piece}
+use Rattle.can_node_rules.specs.Pieces.Place.{AtIdle, AfterSof, AtLastEofBit, AtFlag, AtDelimiter, AtInterframeSpace}
+use Rattle.can_node_rules.specs.Pieces.Piece.{Integration, IdleBit, Reception, Transmission, Fault, LastEofBit, Flag}
+use Rattle.can_node_rules.specs.Pieces.Piece.{Delimiter, InterframeSpace, InterframeSpaceWithSof, InterframeSpaceBroken}
+use Rattle.can_node_rules.specs.Table.{Row}
+use Rattle.can_node_rules.specs.Counting.{at_bit, lost_by}
+use Rattle.can_node_rules.specs.Effects.{closed, with_off}
 use Rattle.can_node.specs.declared.stage.Stage.{Stage}
-use Rattle.can_node.specs.Events.{Step, lost_in}
-use Rattle.can_node.specs.Events.Step.{Within, Finishes}
-use Rattle.can_node.specs.Inside.Stages.{At, IsReceiving, IsTransmitting, IsFramePlace, frame_bits}
+use Rattle.can_node_rules.specs.Events.{Step, lost_in}
+use Rattle.can_node_rules.specs.Events.Step.{Within, Finishes}
+use Rattle.can_node.specs.Stages.{At}
+use Rattle.can_node_rules.specs.UnfinishedPieces.{IsReceiving, IsTransmitting, IsFramePlace, frame_bits}
 
 -- the piece that ended with an overload condition
 abbrev pub overloaded : OverloadCondition → Piece

@@ -5,30 +5,30 @@ use Rattle.std.specs.Prelude.{Result, Ok, Err, OnOk, IfOk}
 use Rattle.can_frame.specs.declared.filter.Filter.{Filter}
 use Rattle.can_frame.specs.Frame.{FrameValue}
 use Rattle.can_frame.specs.Message.{message}
-use Rattle.can_bits.specs.declared.level.Level.{Level}
-use Rattle.can_node.specs.declared.bit_events.BitEvents.{BitEvents}
+use Rattle.can_levels.specs.declared.level.Level.{Level}
+use Rattle.can_node_rules.specs.declared.bit_events.BitEvents.{BitEvents}
 use Rattle.can_node.specs.declared.node.Node.{Node}
 use Rattle.can_node.specs.Stands.{Samples, DrivesNext}
-use Rattle.sja_link.specs.declared.verdict.Verdict.{Verdict}
-use Rattle.sja_link.specs.declared.verdict.Verdict.TheVariants.{Stored as ToStore, Overrun as ToLose}
-use Rattle.sja_link.specs.declared.entry.Entry.{Entry}
-use Rattle.sja_link.specs.declared.up.Up.{Up}
-use Rattle.sja_link.specs.declared.entry.Entry.TheVariants.{Bit, Up as Item, Abort, Stored, Overrun, Off}
-use Rattle.sja_link.specs.Places.{place_of}
-use Rattle.sja_link.specs.Parts.{part}
-use Rattle.sja_link.specs.Carried.{bits_of, bit_in}
-use Rattle.sja_link.specs.Verdicts.{filter_of, PassesAny, IsDue, entry_of}
+use Rattle.sja_journal.specs.declared.verdict.Verdict.{Verdict}
+use Rattle.sja_journal.specs.declared.verdict.Verdict.TheVariants.{Stored as ToStore, Overrun as ToLose}
+use Rattle.sja_journal.specs.declared.entry.Entry.{Entry}
+use Rattle.sja_journal.specs.declared.up.Up.{Up}
+use Rattle.sja_journal.specs.declared.entry.Entry.TheVariants.{Bit, Up as Item, Abort, Stored, Overrun, Off}
+use Rattle.sja_journal.specs.Places.{place_of}
+use Rattle.sja_journal.specs.Parts.{part}
+use Rattle.sja_journal.specs.Carried.{bits_of, bit_in}
+use Rattle.sja_journal.specs.Verdicts.{filter_of, PassesAny, IsDue, entry_of}
 use Rattle.lemmas.specs.Gathering.{total}
 use Rattle.lemmas.proofs.Gathered.{total_append, gathered_push, gathered_append}
-use Rattle.sja_link.specs.BitEntries.{IsRead, AreRead, MayHaveItems, MayHaveAbort, abort_as, entries_of_items}
-use Rattle.sja_link.specs.BitEntries.{judged_as, off_as, HasBit, AreInOrder}
-use Rattle.sja_link.specs.OutOfOrder.{IsOutOfOrder}
+use Rattle.sja_journal.specs.BitEntries.{IsRead, AreRead, MayHaveItems, MayHaveAbort, abort_as, entries_of_items}
+use Rattle.sja_journal.specs.BitEntries.{judged_as, off_as, HasBit, AreInOrder}
+use Rattle.sja_journal.specs.OutOfOrder.{IsOutOfOrder}
 use Rattle.sja_bus.specs.Inside.Following.{Follows, FollowsBit}
 use Rattle.sja_bus.specs.declared.bit_outcome.BitOutcome.{BitOutcome}
 use Rattle.sja_bus.specs.Inside.Turning.{BringsVerdict, Brings}
-use Rattle.sja_bus.specs.Inside.Seats.{IsPassing, IsJudged}
+use Rattle.sja_bus.specs.Inside.BusNodes.{IsPassing, IsJudged}
 use Rattle.sja_bus.proofs.Journal.BitSteps.{follows_bit, follows_stopped, follows_judged}
-use Rattle.sja_link.proofs.Growing.Items.{items_bits}
+use Rattle.sja_journal.proofs.Growing.Items.{items_bits}
 
 -- nothing is to be judged
 pub received_quiet : (old new : Node) (j : List Entry) (x seen : Level) (e : BitEvents) (filter : Filter) (a : ℕ) →

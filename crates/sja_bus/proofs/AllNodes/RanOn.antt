@@ -1,17 +1,17 @@
 -- A bus after bits in which nothing was taken, as contracts see it.
 use Rattle.std.proofs.Common.{◌≡◌, ℕ, ◌+◌, ◌-◌, ◌≤◌, Bool, Option, Some, None, List, length, refl, sym, ap, ◌∙◌, subst}
 use Rattle.std.proofs.Common.{arith}
-use Rattle.sja_link.specs.Links.{HaveLinks}
+use Rattle.sja_journal.specs.Links.{HaveLinks}
 use Rattle.sja_link.specs.declared.bus_end.BusEnd.{Ghosts as Ends}
 use Rattle.lemmas.specs.Related.{EachRelated}
-use Rattle.sja_script.specs.declared.strike.Strike.{Strike}
+use Rattle.sja_steps.specs.declared.strike.Strike.{Strike}
 use Rattle.sja_bus.specs.declared.board.Board.{Ghosts as Ports}
 use Rattle.sja_bus.specs.declared.broken_bit.BrokenBit.{BrokenBit}
-use Rattle.sja_wire.specs.declared.bus_fault.BusFault.{BusFault}
-use Rattle.sja_bus.specs.declared.seat.Seat.{Seat}
+use Rattle.sja_journal.specs.declared.bus_fault.BusFault.{BusFault}
+use Rattle.sja_bus.specs.declared.bus_node.BusNode.{BusNode}
 use Rattle.sja_bus.specs.Boards.{KeepsOthers}
-use Rattle.sja_wire.specs.Buses.{BusValue}
-use Rattle.sja_wire.specs.Reasons.{room_for}
+use Rattle.sja_bus_rules.specs.Buses.{BusValue}
+use Rattle.sja_bus_rules.specs.Reasons.{room_for}
 use Rattle.sja_bus.specs.Moment.{Moment, moment, Keeps}
 use Rattle.sja_bus.specs.Inside.Refusing.{HaveRoom}
 use Rattle.sja_bus.specs.Inside.Rows.{AreBegun, journals_of, untold_of}
@@ -19,9 +19,9 @@ use Rattle.sja_bus.specs.UntilTold.{WorksUntold}
 use Rattle.sja_bus.specs.Inside.RunningOn.{bus_of, AnyBit, RowsRun, RowsStop, IsSoFar, IsStopped}
 use Rattle.sja_bus.proofs.AllNodes.Running.{count_is}
 
--- what contracts see of a bus with these seats
-abbrev pub bus_with : List Strike → ℕ → List ℕ → ℕ → ℕ → Option BusFault → List Seat → BusValue
-bus_with script starts steps run left fault seats =
+-- what contracts see of a bus with these bus nodes
+abbrev pub bus_with : List Strike → ℕ → List ℕ → ℕ → ℕ → Option BusFault → List BusNode → BusValue
+bus_with script starts steps run left fault bus_nodes =
     record {
       script = script;
       starts = starts;
@@ -29,22 +29,23 @@ bus_with script starts steps run left fault seats =
       run = run;
       left = left;
       fault = fault;
-      journals = journals_of seats;
-      untold = untold_of seats;
+      journals = journals_of bus_nodes;
+      untold = untold_of bus_nodes;
     }
 
 -- without a fault
 pub bus_is : (script : List Strike) (starts : ℕ) (steps : List ℕ) (run left : ℕ) (fault : Option BusFault)
-    (seats same : List Seat) (bus : BusValue) →
-    same ≡ seats → fault ≡ None → bus_with script starts steps run left fault seats ≡ bus →
+    (bus_nodes same : List BusNode) (bus : BusValue) →
+    same ≡ bus_nodes → fault ≡ None → bus_with script starts steps run left fault bus_nodes ≡ bus →
     bus_of script starts steps run left same ≡ bus
-bus_is script starts steps run left fault seats same bus is none view =
-    let P : List Seat → Type 0 = λ l. bus_with script starts steps run left None l ≡ bus in
-    let Q : Option BusFault → Type 0 = λ f. bus_with script starts steps run left f seats ≡ bus in
+bus_is script starts steps run left fault bus_nodes same bus is none view =
+    let P : List BusNode → Type 0 = λ l. bus_with script starts steps run left None l ≡ bus in
+    let Q : Option BusFault → Type 0 = λ f. bus_with script starts steps run left f bus_nodes ≡ bus in
     subst P (sym is) (subst Q none view)
 
 module _ {E B : Type 0} (e : Ends E) (b : Ports B) (to_rest : Bool) (script : List Strike) (starts : ℕ) (steps : List ℕ)
-    (run left : ℕ) (was now : List Seat) (links after : List E) (board told : B) (count : ℕ) (len : length now ≡ length
+    (run left : ℕ) (was now : List BusNode) (links after : List E) (board told : B) (count : ℕ)
+    (len : length now ≡ length
     was)
     (sames : EachRelated e.same links after) (others : KeepsOthers b.ports b.kept (length was) board told)
     (old : BusValue) (start : bus_of script starts steps run left was ≡ old) where

@@ -5,46 +5,48 @@ use Rattle.std.specs.Prelude.{slice_index_or, if◌then◌else◌, ◌↔◌, Is
 use Rattle.std.specs.Int.{bit_at}
 use Rattle.std.proofs.lemmas.Bool.{cases_eq, eq-eqb, ne_eqb}
 use Rattle.std.proofs.lemmas.List.{length-map}
-use Rattle.can_bits.specs.declared.level.Level.{Level}
-use Rattle.can_bits.specs.declared.level.Level.TheVariants.{Recessive}
-use Rattle.can_bits.specs.Digits.{opposite}
-use Rattle.can_node.specs.Bits.{Bit, recessive_bit}
-use Rattle.sja_link.specs.declared.entry.Entry.{Entry}
-use Rattle.sja_link.specs.Carried.{bits_of}
-use Rattle.sja_link.specs.Verdicts.{IsLawful}
+use Rattle.can_levels.specs.declared.level.Level.{Level}
+use Rattle.can_levels.specs.declared.level.Level.TheVariants.{Recessive}
+use Rattle.can_levels.specs.Digits.{opposite}
+use Rattle.can_node_rules.specs.Bits.{Bit, recessive_bit}
+use Rattle.sja_journal.specs.declared.entry.Entry.{Entry}
+use Rattle.sja_journal.specs.Carried.{bits_of}
+use Rattle.sja_journal.specs.Verdicts.{IsLawful}
 use Rattle.sja_regs.specs.declared.orders.Orders.{Orders}
-use Rattle.sja_script.specs.declared.strike.Strike.{Strike}
-use Rattle.sja_script.specs.Striking.{Strikes}
+use Rattle.sja_steps.specs.declared.strike.Strike.{Strike}
+use Rattle.sja_steps.specs.Striking.{Strikes}
 use Rattle.sja_bus.specs.declared.struck_nodes.StruckNodes.{StruckNodes}
 use Rattle.sja_bus.specs.Inside.StrikesByBit.{IsAmong}
-use Rattle.sja_bus.specs.declared.seat.Seat.{Seat}
-use Rattle.sja_wire.specs.Wire.{wired, IsSeen, journal_at, IsWired}
-use Rattle.sja_wire.specs.Lawful.{IsBusRun}
+use Rattle.sja_bus.specs.declared.bus_node.BusNode.{BusNode}
+use Rattle.can_levels.specs.BusLevel.{wired}
+use Rattle.sja_bus_rules.specs.Wire.{IsSeen, journal_at, IsWired}
+use Rattle.sja_bus_rules.specs.Lawful.{IsBusRun}
 use Rattle.sja_link.specs.Orderly.{AreOrderly}
 use Rattle.sja_regs.specs.declared.bus_turn.BusTurn.{BusTurn}
 use Rattle.sja_bus.specs.Inside.Turning.{is_untold}
-use Rattle.sja_bus.specs.Inside.Rows.{EachSeat, SeatTakes, SeatOpens, SeatTurns, seen_by, journals_of, untold_of}
+use Rattle.sja_bus.specs.Inside.Rows.{EachBusNode, BusNodeTakes, BusNodeOpens, BusNodeTurns, seen_by, journals_of}
+use Rattle.sja_bus.specs.Inside.Rows.{untold_of}
 use Rattle.sja_bus.specs.Inside.Rows.{driven_by, IsBus}
-use Rattle.sja_wire.proofs.Wires.{wired_bit, wired_same}
+use Rattle.sja_bus_rules.proofs.Wires.{wired_bit, wired_same}
 use Rattle.sja_bus.proofs.WholeBus.Lawfuls.{lawful_of}
 use Rattle.sja_bus.proofs.AllNodes.NodeBit.{bits_has, bits_items, bits_abort}
 
 -- the journal of a node
-pub journal_is : (seats : List Seat) (k : ℕ) (s : Seat) → k < length seats →
-    journal_at (journals_of seats) k ≡ (slice_index_or seats k s).journal.entries
+pub journal_is : (bus_nodes : List BusNode) (k : ℕ) (s : BusNode) → k < length bus_nodes →
+    journal_at (journals_of bus_nodes) k ≡ (slice_index_or bus_nodes k s).journal.entries
 journal_is [] k s few = absurd (omega arith)
-journal_is (x ∷ seats) zero s few = refl
-journal_is (x ∷ seats) (suc k) s few = journal_is seats k s (omega arith)
+journal_is (x ∷ bus_nodes) zero s few = refl
+journal_is (x ∷ bus_nodes) (suc k) s few = journal_is bus_nodes k s (omega arith)
 
 -- whether something is untold of it
-pub untold_is : (seats : List Seat) (k : ℕ) (s : Seat) → k < length seats →
-    slice_index_or (untold_of seats) k false ≡ is_untold (slice_index_or seats k s).untold
+pub untold_is : (bus_nodes : List BusNode) (k : ℕ) (s : BusNode) → k < length bus_nodes →
+    slice_index_or (untold_of bus_nodes) k false ≡ is_untold (slice_index_or bus_nodes k s).untold
 untold_is [] k s few = absurd (omega arith)
-untold_is (x ∷ seats) zero s few = refl
-untold_is (x ∷ seats) (suc k) s few = untold_is seats k s (omega arith)
+untold_is (x ∷ bus_nodes) zero s few = refl
+untold_is (x ∷ bus_nodes) (suc k) s few = untold_is bus_nodes k s (omega arith)
 
-pub count_is : (seats : List Seat) → length (journals_of seats) ≡ length seats
-count_is seats = length-map seats (λ (s : Seat). s.journal.entries)
+pub count_is : (bus_nodes : List BusNode) → length (journals_of bus_nodes) ≡ length bus_nodes
+count_is bus_nodes = length-map bus_nodes (λ (s : BusNode). s.journal.entries)
 
 -- what a node sees, by whether it is struck
 pub seen_is : (b : Bool) (struck : StruckNodes) (level : Level) (node : ℕ) → IsTrue b ↔ IsAmong node struck →
@@ -90,28 +92,30 @@ now_at [] seen k few = absurd (omega arith)
 now_at (x ∷ driven) seen zero few = refl
 now_at (x ∷ driven) seen (suc k) few = now_at driven (λ n. seen (suc n)) k (omega arith)
 
-pub driven_at_place : (seats : List Seat) (k : ℕ) (s : Seat) → k < length seats →
-    slice_index_or (driven_by seats) k Recessive ≡ (slice_index_or seats k s).drives
+pub driven_at_place : (bus_nodes : List BusNode) (k : ℕ) (s : BusNode) → k < length bus_nodes →
+    slice_index_or (driven_by bus_nodes) k Recessive ≡ (slice_index_or bus_nodes k s).drives
 driven_at_place [] k s few = absurd (omega arith)
-driven_at_place (x ∷ seats) zero s few = refl
-driven_at_place (x ∷ seats) (suc k) s few = driven_at_place seats k s (omega arith)
+driven_at_place (x ∷ bus_nodes) zero s few = refl
+driven_at_place (x ∷ bus_nodes) (suc k) s few = driven_at_place bus_nodes k s (omega arith)
 
 -- one bit of all nodes
 pub wired_ticked : (was_told : ℕ → BusTurn → Type 0) (was_kept : ℕ → Type 0) (script : List Strike) (n : ℕ)
-    (seats after : List Seat) (struck : StruckNodes) (level : Level) → length after ≡ length seats → length seats ≤ 8 →
-    level ≡ wired (driven_by seats) → ((node : ℕ) → node < 8 → IsAmong node struck ↔ Strikes script n node) →
-    EachSeat (SeatTurns was_told was_kept struck level) seats after → IsWired script n (journals_of seats) →
+    (bus_nodes after : List BusNode) (struck : StruckNodes) (level : Level) → length after ≡ length bus_nodes →
+    length bus_nodes ≤ 8 →
+    level ≡ wired (driven_by bus_nodes) → ((node : ℕ) → node < 8 → IsAmong node struck ↔ Strikes script n node) →
+    EachBusNode (BusNodeTurns was_told was_kept struck level) bus_nodes after →
+    IsWired script n (journals_of bus_nodes) →
     IsWired script (n + 1) (journals_of after)
 wired_ticked was_told was_kept script n [] [] struck level len few is at turns h =
     wired_bit script n [] [] [] refl refl (λ node near. absurd (omega arith)) (λ node near. absurd (omega arith)) h
 wired_ticked was_told was_kept script n [] (x ∷ after) struck level len few is at turns h = absurd (omega arith)
-wired_ticked was_told was_kept script n (s ∷ seats) after struck level len few is at turns h =
-    let all = s ∷ seats in
+wired_ticked was_told was_kept script n (s ∷ bus_nodes) after struck level len few is at turns h =
+    let all = s ∷ bus_nodes in
     let driven = driven_by all in
     let seen = seen_by struck level in
     let bits = bits_now driven seen in
     let ca = count_is after in let cb = count_is all in let cn = now_length driven seen in let cd =
-    length-map all (λ (x : Seat). x.drives) in
+    length-map all (λ (x : BusNode). x.drives) in
     wired_bit script n (journals_of all) (journals_of after) bits (omega (arith, ca, cb, len))
     (omega (arith, cb, cn, cd))
     (λ node near.
@@ -135,36 +139,36 @@ wired_ticked was_told was_kept script n (s ∷ seats) after struck level len few
     h
 
 -- every bus is lawful
-pub bus_run : (script : List Strike) (bits : ℕ) (seats : List Seat) → IsBus script bits seats →
-    IsBusRun script bits (journals_of seats)
+pub bus_run : (script : List Strike) (bits : ℕ) (bus_nodes : List BusNode) → IsBus script bits bus_nodes →
+    IsBusRun script bits (journals_of bus_nodes)
 bus_run script bits [] h = record {
   lawful = λ node few. absurd (omega arith);
   orderly = λ node few. absurd (omega arith);
   wired = h.wired;
 }
-bus_run script bits (s ∷ seats) h =
-    let all = s ∷ seats in let cb = count_is all in record {
+bus_run script bits (s ∷ bus_nodes) h =
+    let all = s ∷ bus_nodes in let cb = count_is all in record {
       lawful = λ node few.
           let near : node < length all = omega (arith, few, cb) in
-          let seat = (h.ready node s near).ready.sound in
+          let bus_node = (h.ready node s near).ready.sound in
           subst (λ (j : List Entry). IsLawful j) (sym (journal_is all node s near))
-          (lawful_of (slice_index_or all node s).node (slice_index_or all node s).journal.entries seat.follows);
+          (lawful_of (slice_index_or all node s).node (slice_index_or all node s).journal.entries bus_node.follows);
       orderly = λ node few.
           let near : node < length all = omega (arith, few, cb) in
-          let seat = (h.ready node s near).ready.sound in
-          subst (λ (j : List Entry). AreOrderly j) (sym (journal_is all node s near)) seat.reads.orderly;
+          let bus_node = (h.ready node s near).ready.sound in
+          subst (λ (j : List Entry). AreOrderly j) (sym (journal_is all node s near)) bus_node.reads.orderly;
       wired = h.wired;
     }
 
 -- no bit more
-wired_kept : (script : List Strike) (n : ℕ) (seats after : List Seat) → length after ≡ length seats →
-    ((k : ℕ) (s : Seat) → k < length seats → bits_of (slice_index_or after k
-    s).journal.entries ≡ bits_of (slice_index_or seats k s).journal.entries) →
-    IsWired script n (journals_of seats) → IsWired script n (journals_of after)
+wired_kept : (script : List Strike) (n : ℕ) (bus_nodes after : List BusNode) → length after ≡ length bus_nodes →
+    ((k : ℕ) (s : BusNode) → k < length bus_nodes → bits_of (slice_index_or after k
+    s).journal.entries ≡ bits_of (slice_index_or bus_nodes k s).journal.entries) →
+    IsWired script n (journals_of bus_nodes) → IsWired script n (journals_of after)
 wired_kept script n [] [] len keep h = h
 wired_kept script n [] (x ∷ after) len keep h = absurd (omega arith)
-wired_kept script n (s ∷ seats) after len keep h =
-    let all = s ∷ seats in let ca = count_is after in let cb = count_is all in
+wired_kept script n (s ∷ bus_nodes) after len keep h =
+    let all = s ∷ bus_nodes in let ca = count_is after in let cb = count_is all in
     wired_same script n (journals_of all) (journals_of after) (omega (arith, ca, cb, len))
     (λ node few.
     let near : node < length all = omega (arith, few, cb) in
@@ -173,16 +177,18 @@ wired_kept script n (s ∷ seats) after len keep h =
     h
 
 -- items were taken, and aborts applied
-pub wired_taken : (script : List Strike) (n : ℕ) (seats after : List Seat) → length after ≡ length seats →
-    EachSeat SeatTakes seats after → IsWired script n (journals_of seats) → IsWired script n (journals_of after)
-wired_taken script n seats after len takes h =
-    wired_kept script n seats after len (λ k s few. bits_items (slice_index_or seats k s).journal.entries
+pub wired_taken : (script : List Strike) (n : ℕ) (bus_nodes after : List BusNode) → length after ≡ length bus_nodes →
+    EachBusNode BusNodeTakes bus_nodes after → IsWired script n (journals_of bus_nodes) →
+    IsWired script n (journals_of after)
+wired_taken script n bus_nodes after len takes h =
+    wired_kept script n bus_nodes after len (λ k s few. bits_items (slice_index_or bus_nodes k s).journal.entries
     (slice_index_or after k s).journal.entries (takes k s few)) h
 
-pub wired_opened : (orders_are : ℕ → Orders → Type 0) (script : List Strike) (n : ℕ) (seats after : List Seat) →
-    length after ≡ length seats → EachSeat (SeatOpens orders_are) seats after → IsWired script n (journals_of seats) →
+pub wired_opened : (orders_are : ℕ → Orders → Type 0) (script : List Strike) (n : ℕ) (bus_nodes after : List BusNode) →
+    length after ≡ length bus_nodes → EachBusNode (BusNodeOpens orders_are) bus_nodes after →
+    IsWired script n (journals_of bus_nodes) →
     IsWired script n (journals_of after)
-wired_opened orders_are script n seats after len opens h =
-    wired_kept script n seats after len
+wired_opened orders_are script n bus_nodes after len opens h =
+    wired_kept script n bus_nodes after len
     (λ k s few. let o = opens k s few in bits_abort o.taken (slice_index_or after k s).journal.entries o.aborts
-    ∙ bits_items (slice_index_or seats k s).journal.entries o.taken o.items) h
+    ∙ bits_items (slice_index_or bus_nodes k s).journal.entries o.taken o.items) h

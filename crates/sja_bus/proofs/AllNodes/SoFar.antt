@@ -5,7 +5,7 @@ use Rattle.sja_link.specs.declared.bus_end.BusEnd.{Ghosts as Ends}
 use Rattle.lemmas.proofs.Related.{each_refl, each_trans}
 use Rattle.sja_regs.specs.declared.orders.Orders.{Orders}
 use Rattle.sja_bus.specs.declared.board.Board.{Ghosts as Ports}
-use Rattle.sja_wire.specs.declared.bus_fault.BusFault.{BusFault}
+use Rattle.sja_journal.specs.declared.bus_fault.BusFault.{BusFault}
 use Rattle.sja_bus.specs.Boards.{KeepsOthers}
 use Rattle.sja_bus.specs.Moment.{Moment, Keeps, OneBit}
 use Rattle.sja_bus.specs.Several.{AreBits, BreaksOff}

@@ -2,33 +2,34 @@
 use Rattle.std.proofs.Common.{◌≡◌, ◌≢◌, Bool, true, false, Option, Some, None, List, [], ◌∷◌, ◌++◌, refl, sym, ap, ◌∙◌}
 use Rattle.std.proofs.Common.{subst, append-nil}
 use Rattle.std.specs.Prelude.{◌||◌, not, if◌then◌else◌}
-use Rattle.can_node.specs.declared.request.Request.{Request}
-use Rattle.can_node.specs.declared.abort_outcome.AbortOutcome.TheVariants.{Unchanged, Marked, Dropped}
+use Rattle.can_node_rules.specs.declared.request.Request.{Request}
+use Rattle.can_node_rules.specs.declared.abort_outcome.AbortOutcome.TheVariants.{Unchanged, Marked, Dropped}
 use Rattle.can_node.specs.declared.node.Node.{Node}
-use Rattle.can_node.specs.Bits.{Bit as Levels}
-use Rattle.can_node.specs.Context.{ContextValue, fresh, is_held}
-use Rattle.can_node.specs.Pieces.{Place}
-use Rattle.can_node.specs.Pieces.Place.{AtReset}
-use Rattle.can_node.specs.Record.{RecordEntry as Event, bits_in}
-use Rattle.can_node.specs.Record.RecordEntry.{Abort as AbortedNow}
-use Rattle.can_node.specs.Record.Inner.{none_left, aborts}
-use Rattle.can_node.specs.Effects.{along, with_abort, is_in_progress}
-use Rattle.can_node.specs.FinishedPieces.{FinishedPiece, none_yet}
-use Rattle.can_node.specs.Cut.{IsUnfinished, IsOpenAt, IsOnBus, From, IsCut}
-use Rattle.can_node.specs.Cut.IsOpenAt.{rests, nothing, begun}
-use Rattle.can_node.specs.Cut.Move.{aborted}
-use Rattle.can_node.specs.NextBit.{now_in}
-use Rattle.can_node.specs.Stands.{Aborts, abort_of}
-use Rattle.can_node.proofs.Machine.Along.{along_both, bits_both}
+use Rattle.can_node_rules.specs.Bits.{Bit as Levels}
+use Rattle.can_node_rules.specs.Context.{ContextValue, fresh, is_held}
+use Rattle.can_node_rules.specs.Pieces.{Place}
+use Rattle.can_node_rules.specs.Pieces.Place.{AtReset}
+use Rattle.can_node_rules.specs.Record.{RecordEntry as Event, bits_in}
+use Rattle.can_node_rules.specs.Record.RecordEntry.{Abort as AbortedNow}
+use Rattle.can_node_rules.specs.Record.Inner.{none_left, aborts}
+use Rattle.can_node_rules.specs.Effects.{along, with_abort, is_in_progress}
+use Rattle.can_node_rules.specs.FinishedPieces.{FinishedPiece, none_yet}
+use Rattle.can_node_rules.specs.Cut.{IsUnfinished, IsOpenAt, IsOnBus, From, IsCut}
+use Rattle.can_node_rules.specs.Cut.IsOpenAt.{rests, nothing, begun}
+use Rattle.can_node_rules.specs.Cut.Move.{aborted}
+use Rattle.can_node_rules.specs.NextBit.{now_in}
+use Rattle.can_node.specs.Stands.{Aborts}
+use Rattle.can_node_rules.specs.Outcomes.{abort_of}
+use Rattle.can_node_rules.proofs.Machine.Along.{along_both, bits_both}
 use Rattle.can_node.proofs.Machine.Requests.{holding_awake}
-use Rattle.can_node.proofs.OneCut.GoOn.{open_end, stays_end, move_on, open_on, inner_both}
-use Rattle.sja_link.specs.declared.entry.Entry.{Entry}
-use Rattle.sja_link.specs.declared.entry.Entry.TheVariants.{Abort}
-use Rattle.sja_link.specs.Records.{record_of}
-use Rattle.sja_link.proofs.JournalEntries.Entering.{record_push}
+use Rattle.can_node_rules.proofs.OneCut.GoOn.{open_end, stays_end, move_on, open_on, inner_both}
+use Rattle.sja_journal.specs.declared.entry.Entry.{Entry}
+use Rattle.sja_journal.specs.declared.entry.Entry.TheVariants.{Abort}
+use Rattle.sja_journal.specs.Records.{record_of}
+use Rattle.sja_journal.proofs.JournalEntries.Entering.{record_push}
 use Rattle.sja_bus.specs.Inside.Following.{Follows}
 use Rattle.sja_bus.specs.Inside.Turning.{Drops}
-use Rattle.can_node.proofs.OneCut.SameCuts.{same_now}
+use Rattle.can_node_rules.proofs.OneCut.SameCuts.{same_now}
 
 -- ---- the cut of a record with an abort more
 

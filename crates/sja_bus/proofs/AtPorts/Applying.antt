@@ -1,26 +1,27 @@
 -- What an abort changed, by every cut.
 use Rattle.std.proofs.Common.{◌≡◌, ◌≢◌, ℕ, true, false, List, [], ◌∷◌, ◌++◌, inl, inr, refl, sym, ap, ◌∙◌, subst}
 use Rattle.std.proofs.Common.{append-nil, arith}
-use Rattle.can_node.specs.declared.abort_outcome.AbortOutcome.{AbortOutcome}
+use Rattle.can_node_rules.specs.declared.abort_outcome.AbortOutcome.{AbortOutcome}
 use Rattle.can_node.specs.declared.node.Node.{Node}
-use Rattle.can_node.specs.Context.{ContextValue}
-use Rattle.can_node.specs.Record.{RecordEntry as Event}
-use Rattle.can_node.specs.FinishedPieces.{FinishedPiece}
-use Rattle.can_node.specs.Cut.{IsCut}
-use Rattle.can_node.specs.Effects.{is_in_progress}
-use Rattle.can_node.specs.NextBit.{now_in}
-use Rattle.can_node.specs.Stands.{Aborts, abort_of}
-use Rattle.can_node.proofs.OneCut.CutOnce.{whole_once}
-use Rattle.sja_link.specs.declared.entry.Entry.{Entry}
-use Rattle.sja_link.specs.declared.entry.Entry.TheVariants.{Abort}
-use Rattle.sja_link.specs.Records.{record_of}
+use Rattle.can_node_rules.specs.Context.{ContextValue}
+use Rattle.can_node_rules.specs.Record.{RecordEntry as Event}
+use Rattle.can_node_rules.specs.FinishedPieces.{FinishedPiece}
+use Rattle.can_node_rules.specs.Cut.{IsCut}
+use Rattle.can_node_rules.specs.Effects.{is_in_progress}
+use Rattle.can_node_rules.specs.NextBit.{now_in}
+use Rattle.can_node.specs.Stands.{Aborts}
+use Rattle.can_node_rules.specs.Outcomes.{abort_of}
+use Rattle.can_node_rules.proofs.OneCut.CutOnce.{whole_once}
+use Rattle.sja_journal.specs.declared.entry.Entry.{Entry}
+use Rattle.sja_journal.specs.declared.entry.Entry.TheVariants.{Abort}
+use Rattle.sja_journal.specs.Records.{record_of}
 use Rattle.sja_bus.specs.declared.activity.Activity.{Activity}
 use Rattle.sja_bus.specs.declared.activity.Activity.TheVariants.{Between, Running, Off, OffAndAsked}
-use Rattle.sja_link.specs.Aborting.{abort_in, changes, IsApplied}
+use Rattle.sja_journal.specs.Aborting.{abort_in, changes, IsApplied}
 use Rattle.sja_bus.specs.Inside.Following.{Follows, Reads}
 use Rattle.sja_bus.specs.Inside.Taking.{Applies}
-use Rattle.can_node.proofs.OneCut.SameCuts.{same_now}
-use Rattle.sja_bus.proofs.Links.Seating.{open_by}
+use Rattle.can_node_rules.proofs.OneCut.SameCuts.{same_now}
+use Rattle.sja_bus.proofs.Links.BusNodeParts.{open_by}
 
 -- two cuts of a record say the same of an abort
 abort_once : (entries : List Event) (found others : List FinishedPiece) (h : IsCut entries found)

@@ -1,10 +1,10 @@
 -- A bit of a node, where what holds of its port is said in other words.
 use Rattle.std.proofs.Common.{Bool, List, inl, inr}
-use Rattle.can_bits.specs.declared.level.Level.{Level}
-use Rattle.sja_link.specs.declared.entry.Entry.{Entry}
+use Rattle.can_levels.specs.declared.level.Level.{Level}
+use Rattle.sja_journal.specs.declared.entry.Entry.{Entry}
 use Rattle.sja_regs.specs.declared.bus_turn.BusTurn.{BusTurn}
 use Rattle.sja_regs.specs.declared.orders.Orders.{Orders}
-use Rattle.sja_wire.specs.Buses.{IsNodeBit}
+use Rattle.sja_bus_rules.specs.Buses.{IsNodeBit}
 
 pub other_node_bit : (O P : Orders → Type 0) (T U : BusTurn → Type 0) (K L : Type 0) (untold : Bool) (j k : List Entry)
     (driven seen : Level) → ((o : Orders) → O o → P o) → ((t : BusTurn) → T t → U t) → (K → L) →

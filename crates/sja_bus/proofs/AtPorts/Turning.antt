@@ -1,36 +1,37 @@
 -- The turn of a bit.
 use Rattle.std.proofs.Common.{◌≡◌, ◌+◌, Bool, false, List, [], ◌∷◌, ◌++◌, refl, sym, ap, ◌∙◌, subst}
 use Rattle.std.specs.Prelude.{not}
-use Rattle.can_bits.specs.declared.level.Level.{Level}
-use Rattle.can_node.specs.declared.bit_events.BitEvents.{BitEvents}
-use Rattle.can_node.specs.declared.counters.Counters.{Counters}
+use Rattle.can_levels.specs.declared.level.Level.{Level}
+use Rattle.can_node_rules.specs.declared.bit_events.BitEvents.{BitEvents}
+use Rattle.can_node_rules.specs.declared.counters.Counters.{Counters}
 use Rattle.can_node.specs.declared.node.Node.{Node}
-use Rattle.can_node.specs.Bits.{Bit as Levels}
-use Rattle.can_node.specs.Context.{ContextValue, is_transmitter}
-use Rattle.can_node.specs.Record.{RecordEntry as Event}
-use Rattle.can_node.specs.Record.RecordEntry.{OneBit as Took}
-use Rattle.can_node.specs.FinishedPieces.{FinishedPiece, counted, none_yet}
-use Rattle.can_node.specs.NextBit.{now_in}
-use Rattle.can_node.specs.Stands.{StandsAt, Samples, DrivesNext, ShowsSame, ShowsPhase, entries_of, closed_by, nothing}
+use Rattle.can_node_rules.specs.Bits.{Bit as Levels}
+use Rattle.can_node_rules.specs.Context.{ContextValue, is_transmitter}
+use Rattle.can_node_rules.specs.Record.{RecordEntry as Event}
+use Rattle.can_node_rules.specs.Record.RecordEntry.{OneBit as Took}
+use Rattle.can_node_rules.specs.FinishedPieces.{FinishedPiece, counted, none_yet}
+use Rattle.can_node_rules.specs.NextBit.{now_in}
+use Rattle.can_node.specs.Stands.{StandsAt, Samples, DrivesNext, ShowsSame, ShowsPhase}
+use Rattle.can_node_rules.specs.Outcomes.{entries_of, closed_by, nothing}
 use Rattle.can_node.specs.Stands.{is_receiving, shown_phase}
 use Rattle.can_node.proofs.Machine.Shown.{phase_shown}
-use Rattle.sja_link.specs.declared.entry.Entry.{Entry}
-use Rattle.sja_link.specs.declared.entry.Entry.TheVariants.{Bit}
-use Rattle.sja_link.specs.Places.{place_of}
-use Rattle.sja_link.specs.Records.{record_of}
-use Rattle.sja_link.proofs.JournalEntries.Entering.{place_push}
+use Rattle.sja_journal.specs.declared.entry.Entry.{Entry}
+use Rattle.sja_journal.specs.declared.entry.Entry.TheVariants.{Bit}
+use Rattle.sja_journal.specs.Places.{place_of}
+use Rattle.sja_journal.specs.Records.{record_of}
+use Rattle.sja_journal.proofs.JournalEntries.Entering.{place_push}
 use Rattle.sja_regs.specs.declared.bus_turn.BusTurn.{BusTurn}
-use Rattle.sja_link.specs.BitEntries.{HasBit}
-use Rattle.sja_link.specs.Inside.Entries.{off_left}
-use Rattle.sja_wire.specs.Telling.{SaysAlone, IsTurn, is_overrun}
+use Rattle.sja_journal.specs.BitEntries.{HasBit}
+use Rattle.sja_journal.specs.Entries.{off_left}
+use Rattle.sja_bus_rules.specs.Telling.{SaysAlone, IsTurn, is_overrun}
 use Rattle.sja_bus.specs.Inside.Following.{Follows}
 use Rattle.sja_bus.specs.Inside.Turning.{Drops, SaysAs, TurnOf, is_dropped}
-use Rattle.sja_bus.specs.declared.seat.Seat.{Seat}
-use Rattle.sja_bus.specs.declared.port_news.PortNews.TheVariants.{Nothing}
-use Rattle.sja_bus.specs.Inside.Seats.{IsSound}
+use Rattle.sja_bus.specs.declared.bus_node.BusNode.{BusNode}
+use Rattle.sja_bus.specs.declared.pending_event.PendingEvent.TheVariants.{Nothing}
+use Rattle.sja_bus.specs.Inside.BusNodes.{IsSound}
 use Rattle.can_node.specs.NextField.{ShowsRole}
-use Rattle.can_node.proofs.OneCut.SameCuts.{same_now, same_phase}
-use Rattle.sja_link.proofs.Growing.BitRecords.{entries_split, record_bit}
+use Rattle.can_node_rules.proofs.OneCut.SameCuts.{same_now, same_phase}
+use Rattle.sja_journal.proofs.Growing.BitRecords.{entries_split, record_bit}
 
 -- ---- the turn
 
@@ -148,8 +149,8 @@ alone_once j t u a b =
       overrun = a.overrun ∙ sym b.overrun;
     })
 
--- what a seat says that is told all, where nothing happened
-pub stands_alone : (s : Seat) (turn : BusTurn) (sends : Bool) → IsSound s → s.untold ≡ Nothing →
+-- what a bus node says that is told all, where nothing happened
+pub stands_alone : (s : BusNode) (turn : BusTurn) (sends : Bool) → IsSound s → s.untold ≡ Nothing →
     ShowsRole s.node sends → TurnOf s (nothing (not sends)) false turn → SaysAlone s.journal.entries turn
 stands_alone s turn sends sound calm role t =
     let h = sound.follows in let r = record_of s.journal.entries in let c = t.counters r h.found h.stands in

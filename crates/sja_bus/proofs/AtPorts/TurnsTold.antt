@@ -2,41 +2,41 @@
 use Rattle.std.proofs.Common.{◌≡◌, ◌≢◌, ◌+◌, ◌<◌, Bool, true, false, None, List, [], ◌∷◌, ◌++◌, length}
 use Rattle.std.proofs.Common.{refl, sym, ap, ◌∙◌, subst, append-nil, arith, inl, inr}
 use Rattle.std.specs.Prelude.{◌⊎◌}
-use Rattle.can_bits.specs.declared.level.Level.{Level}
+use Rattle.can_levels.specs.declared.level.Level.{Level}
 use Rattle.can_node.specs.Stands.{Samples}
-use Rattle.sja_link.specs.declared.entry.Entry.{Entry}
-use Rattle.sja_link.specs.declared.up.Up.{Up}
-use Rattle.sja_link.specs.declared.entry.Entry.TheVariants.{Bit, Up as Item, Abort}
-use Rattle.sja_link.specs.Places.{place_of}
+use Rattle.sja_journal.specs.declared.entry.Entry.{Entry}
+use Rattle.sja_journal.specs.declared.up.Up.{Up}
+use Rattle.sja_journal.specs.declared.entry.Entry.TheVariants.{Bit, Up as Item, Abort}
+use Rattle.sja_journal.specs.Places.{place_of}
 use Rattle.sja_regs.specs.declared.bus_turn.BusTurn.{BusTurn}
-use Rattle.sja_link.specs.BitEntries.{MayHaveItems, HasBit, judged_as, off_as}
-use Rattle.sja_wire.specs.Telling.{IsTurn, SaysAlone}
-use Rattle.sja_bus.specs.declared.port_news.PortNews.{PortNews}
-use Rattle.sja_bus.specs.declared.port_news.PortNews.TheVariants.{Nothing, Changed, Dropped}
-use Rattle.sja_bus.specs.declared.seat.Seat.{Seat}
+use Rattle.sja_journal.specs.BitEntries.{MayHaveItems, HasBit, judged_as, off_as}
+use Rattle.sja_bus_rules.specs.Telling.{IsTurn, SaysAlone}
+use Rattle.sja_bus.specs.declared.pending_event.PendingEvent.{PendingEvent}
+use Rattle.sja_bus.specs.declared.pending_event.PendingEvent.TheVariants.{Nothing, Changed, Dropped}
+use Rattle.sja_bus.specs.declared.bus_node.BusNode.{BusNode}
 use Rattle.sja_bus.specs.declared.bit_outcome.BitOutcome.{BitOutcome}
 use Rattle.sja_bus.specs.UntilTold.{IsLastTurn}
 use Rattle.sja_bus.specs.Inside.Following.{open_in}
-use Rattle.sja_bus.specs.Inside.Seats.{IsReady}
+use Rattle.sja_bus.specs.Inside.BusNodes.{IsReady}
 use Rattle.sja_bus.specs.Inside.Turning.{IsIdleBit, IsQuietBit, Drops, TakesUntold, AbortsUntold, OpensUntold, Brings}
 use Rattle.sja_bus.specs.Inside.Turning.{TurnOf, Turns, is_dropped}
 use Rattle.std.proofs.lemmas.List.{length-append}
 use Rattle.sja_bus.proofs.AtPorts.Turning.{turn_is, still, still_alone, still_turn}
 
-pub not_dropped : (n : PortNews) → n ≢ Dropped → is_dropped n ≡ false
+pub not_dropped : (n : PendingEvent) → n ≢ Dropped → is_dropped n ≡ false
 not_dropped Nothing h = refl
 not_dropped Changed h = refl
 not_dropped Dropped h = absurd (h refl)
 
 -- no abort changed the node
-pub drops_none : (j : List Entry) (n : PortNews) → n ≢ Dropped → Drops false j (is_dropped n)
+pub drops_none : (j : List Entry) (n : PendingEvent) → n ≢ Dropped → Drops false j (is_dropped n)
 drops_none j n h found cut = not_dropped n h
 
-calm_not : (s : Seat) → s.untold ≡ Nothing → s.untold ≢ Dropped
+calm_not : (s : BusNode) → s.untold ≡ Nothing → s.untold ≢ Dropped
 calm_not s calm e = let wrong : Nothing ≡ Dropped = sym calm ∙ e in cc
 
 -- an item more was taken
-pub takes_one : (old mid new : Seat) → new.untold ≡ Changed → (u : Up) → new.journal.entries ≡ mid.journal.entries
+pub takes_one : (old mid new : BusNode) → new.untold ≡ Changed → (u : Up) → new.journal.entries ≡ mid.journal.entries
     ++ Item u ∷ [] → TakesUntold old mid → TakesUntold old new
 takes_one old mid new untold u whole h = inr (untold, more h)
   where
@@ -48,7 +48,7 @@ takes_one old mid new untold u whole h = inr (untold, more h)
     more (inr (n, few)) = omega (arith, few, longer)
 
 -- an abort that changed the node, and none
-pub aborts_none : (old new : Seat) → new.untold ≡ old.untold →
+pub aborts_none : (old new : BusNode) → new.untold ≡ old.untold →
     new.journal.entries ≡ old.journal.entries → AbortsUntold old new
 aborts_none old new untold same = record {
   aborts = record { changed = false; whole = same ∙ sym (append-nil old.journal.entries) };
@@ -56,18 +56,18 @@ aborts_none old new untold same = record {
   drops = λ ne. drops_none new.journal.entries new.untold (λ e. ne (sym untold ∙ e));
 }
 
-pub aborts_one : (old new : Seat) (untold : PortNews) → new.untold ≡ untold → untold ≢ Nothing →
+pub aborts_one : (old new : BusNode) (untold : PendingEvent) → new.untold ≡ untold → untold ≢ Nothing →
     new.journal.entries ≡ old.journal.entries ++ Abort ∷ [] →
     Drops true (old.journal.entries ++ Abort ∷ []) (is_dropped untold) → AbortsUntold old new
 aborts_one old new untold is some whole drops =
-    let P : PortNews → Type 0 = λ n. Drops true (old.journal.entries ++ Abort ∷ []) (is_dropped n) in
+    let P : PendingEvent → Type 0 = λ n. Drops true (old.journal.entries ++ Abort ∷ []) (is_dropped n) in
     let Q : List Entry → Type 0 = λ l. Drops true l (is_dropped new.untold) in record {
       aborts = record { changed = true; whole = whole };
       still = λ e. absurd (some (sym is ∙ e));
       drops = λ ne. subst Q (sym whole) (subst P (sym is) drops);
     }
 
-pub takes_then : (old mid new : Seat) → TakesUntold old mid → MayHaveItems old.journal.entries mid.journal.entries →
+pub takes_then : (old mid new : BusNode) → TakesUntold old mid → MayHaveItems old.journal.entries mid.journal.entries →
     AbortsUntold mid new → OpensUntold old new
 takes_then old mid new takes items h = record {
   taken = mid.journal.entries;
@@ -86,10 +86,10 @@ takes_then old mid new takes items h = record {
     calm (inl (n, j)) ne e = ne (sym n ∙ e)
     calm (inr (n, l)) ne e = let wrong : Changed ≡ Dropped = sym n ∙ e in cc
 
--- ---- one bit of a seat
+-- ---- one bit of a bus node
 
 -- nothing happened, and nothing was to be told
-pub quiet_turns : (was_told : BusTurn → Type 0) (was_kept : Type 0) (seen : Level) (old new : Seat) → was_kept →
+pub quiet_turns : (was_told : BusTurn → Type 0) (was_kept : Type 0) (seen : Level) (old new : BusNode) → was_kept →
     IsReady old → IsQuietBit seen old new →
     Turns was_told was_kept seen old new
 quiet_turns was_told was_kept seen old new kept ready quiet =
@@ -110,7 +110,7 @@ quiet_turns was_told was_kept seen old new kept ready quiet =
     }
 
 -- the same by the journal alone
-pub idle_bit : (seen : Level) (old new : Seat) → IsReady old → IsQuietBit seen old new → IsIdleBit seen old new
+pub idle_bit : (seen : Level) (old new : BusNode) → IsReady old → IsQuietBit seen old new → IsIdleBit seen old new
 idle_bit seen old new ready quiet =
     let j = old.journal.entries in let one = j ++ Bit old.drives seen ∷ [] in
     let bit : HasBit j old.drives seen one = record {
@@ -130,7 +130,7 @@ idle_bit seen old new ready quiet =
     }
 
 -- the port is told the turn of the bit, or passed over
-unfoldable pub full_turns : (was_told : BusTurn → Type 0) (was_kept : Type 0) (seen : Level) (old s : Seat)
+unfoldable pub full_turns : (was_told : BusTurn → Type 0) (was_kept : Type 0) (seen : Level) (old s : BusNode)
     (outcome : BitOutcome) (turn : BusTurn) →
     was_told turn ⊎ (was_kept × (old.untold ≡ Nothing) × SaysAlone old.journal.entries turn) →
     IsReady old → s.untold ≡ old.untold →
@@ -151,7 +151,7 @@ full_turns was_told was_kept seen old s outcome turn port ready untold samples b
 }
 
 -- where all was told, and the turn says more than what stood before the bit, it is told as the turn of the last bit
-pub last_turn : {was_told : BusTurn → Type 0} {was_kept : Type 0} {seen : Level} {old new : Seat} →
+pub last_turn : {was_told : BusTurn → Type 0} {was_kept : Type 0} {seen : Level} {old new : BusNode} →
     old.untold ≡ Nothing → (h : Turns was_told was_kept seen old new) →
     (SaysAlone old.journal.entries h.turn → ⊥) → IsLastTurn new.journal.entries h.turn
 last_turn {seen = seen} {old = old} calm h more = record {
@@ -164,7 +164,7 @@ last_turn {seen = seen} {old = old} calm h more = record {
 }
 
 -- where it says no more, and no message was judged and the node didn't go bus-off, the bit brought nothing
-pub idle_turn : {was_told : BusTurn → Type 0} {was_kept : Type 0} {seen : Level} {old new : Seat} →
+pub idle_turn : {was_told : BusTurn → Type 0} {was_kept : Type 0} {seen : Level} {old new : BusNode} →
     old.untold ≡ Nothing → (h : Turns was_told was_kept seen old new) → SaysAlone old.journal.entries h.turn →
     h.bit.verdict ≡ None → h.bit.off ≡ false → IsIdleBit seen old new
 idle_turn {seen = seen} {old = old} {new = new} calm h alone none on = record {
@@ -186,7 +186,7 @@ idle_turn {seen = seen} {old = old} {new = new} calm h alone none on = record {
         (h.bit, h.is_turn false (drops_none old.journal.entries old.untold (calm_not old calm)))
 
 -- the same by what else was done at the ports
-pub turns_by : {was_told had_told : BusTurn → Type 0} {was_kept had_kept : Type 0} {seen : Level} {old new : Seat} →
+pub turns_by : {was_told had_told : BusTurn → Type 0} {was_kept had_kept : Type 0} {seen : Level} {old new : BusNode} →
     ((turn : BusTurn) → was_told turn → had_told turn) → (was_kept → had_kept) →
     Turns was_told was_kept seen old new → Turns had_told had_kept seen old new
 turns_by {was_told = was_told} {had_told = had_told} {was_kept = was_kept} {had_kept = had_kept} {old = old} f g h =

@@ -2,34 +2,35 @@
 use Rattle.std.proofs.Common.{◌≡◌, ℕ, suc, Bool, true, List, ◌++◌, refl, sym, ap, ◌∙◌, subst}
 use Rattle.sja_regs.specs.declared.orders.Orders.{Orders}
 use Rattle.sja_link.specs.declared.bus_end.BusEnd.{Ghosts as Ends}
-use Rattle.sja_link.specs.declared.entry.Entry.{Entry}
-use Rattle.sja_link.specs.declared.entry.Entry.TheVariants.{Abort, Off}
-use Rattle.sja_link.specs.Written.{Room, IsFullFor}
-use Rattle.sja_link.specs.Accounts.{Account, account}
-use Rattle.sja_link.specs.Parts.{part}
-use Rattle.sja_link.specs.Records.{record_of}
-use Rattle.sja_link.specs.Verdicts.{HasVerdicts}
-use Rattle.sja_link.specs.NodeWords.{FinishedPiece, IsCut, received}
+use Rattle.sja_journal.specs.declared.entry.Entry.{Entry}
+use Rattle.sja_journal.specs.declared.entry.Entry.TheVariants.{Abort, Off}
+use Rattle.sja_journal.specs.Written.{Room, IsFullFor}
+use Rattle.sja_journal.specs.Accounts.{Account, account}
+use Rattle.sja_journal.specs.Parts.{part}
+use Rattle.sja_journal.specs.Records.{record_of}
+use Rattle.sja_journal.specs.Verdicts.{HasVerdicts}
+use Rattle.sja_journal.specs.NodeWords.{FinishedPiece, IsCut, received}
 use Rattle.sja_link.specs.BusLedgers.{link_of, activation_of, free_in}
-use Rattle.sja_wire.specs.declared.bus_fault.BusFault.{BusFault}
-use Rattle.sja_wire.specs.declared.bus_fault.BusFault.TheVariants.{BitsSpent, BadCredit, Stuck, BadOrder, JournalFull}
-use Rattle.sja_bus.specs.declared.seat.Seat.{Seat}
-use Rattle.sja_link.specs.Links.{Kept, stops_of}
-use Rattle.sja_link.specs.Inside.Moving.{Goes}
-use Rattle.sja_link.specs.Aborting.{IsApplied}
-use Rattle.sja_link.specs.Opening.{IsOpen, BeginsWithin, begun_in}
-use Rattle.sja_link.specs.BitEntries.{MayHaveItems, off_as}
-use Rattle.sja_link.specs.OutOfOrder.{read_in, HasOff}
-use Rattle.sja_wire.specs.OutOfRoom.{IsOutOfRoom}
-use Rattle.sja_wire.specs.Reasons.{IsBrokenFor, GivesBack}
-use Rattle.sja_bus.specs.Inside.SeatBits.{BreaksInBit}
+use Rattle.sja_journal.specs.declared.bus_fault.BusFault.{BusFault}
+use Rattle.sja_journal.specs.declared.bus_fault.BusFault.TheVariants.{BitsSpent, BadCredit, Stuck, BadOrder}
+use Rattle.sja_journal.specs.declared.bus_fault.BusFault.TheVariants.{JournalFull}
+use Rattle.sja_bus.specs.declared.bus_node.BusNode.{BusNode}
+use Rattle.sja_journal.specs.Links.{Kept, stops_of}
+use Rattle.sja_link.specs.Moving.{Goes}
+use Rattle.sja_journal.specs.Aborting.{IsApplied}
+use Rattle.sja_journal.specs.Opening.{IsOpen, BeginsWithin, begun_in}
+use Rattle.sja_journal.specs.BitEntries.{MayHaveItems, off_as}
+use Rattle.sja_journal.specs.OutOfOrder.{read_in, HasOff}
+use Rattle.sja_bus_rules.specs.OutOfRoom.{IsOutOfRoom}
+use Rattle.sja_bus_rules.specs.Reasons.{IsBrokenFor, GivesBack}
+use Rattle.sja_bus.specs.Inside.BusNodeBits.{BreaksInBit}
 use Rattle.sja_bus.specs.Inside.Following.{Reads, open_in}
-use Rattle.sja_bus.specs.Inside.Seats.{IsSeat}
+use Rattle.sja_bus.specs.Inside.BusNodes.{IsBusNode}
 use Rattle.sja_bus.specs.Inside.Taking.{BreaksBy, IsFull, IsGivenBack, FullForAbort}
-use Rattle.sja_bus.proofs.Links.Seating.{open_by}
+use Rattle.sja_bus.proofs.Links.BusNodeParts.{open_by}
 
 -- an abort's entry found no room, after items were taken
-pub full_for_abort : {E : Type 0} (e : Ends E) (old mid new : Seat) (end after : E) (f : BusFault) →
+pub full_for_abort : {E : Type 0} (e : Ends E) (old mid new : BusNode) (end after : E) (f : BusFault) →
     (link_of mid.ledger).node ≡ (link_of old.ledger).node →
     mid.journal.room ≡ old.journal.room → MayHaveItems old.journal.entries mid.journal.entries →
     Goes e.same e.stands end after old.journal.entries mid.journal.entries →
@@ -54,7 +55,7 @@ full_for_abort e old mid new end after f node room items goes within has_orders 
     }
 
 -- the whole bit broke off, where an entry found no room of which that is said so
-pub breaks_whole : {E P : Type 0} (e : Ends E) (end : E) (old new : Seat) (f : BusFault) →
+pub breaks_whole : {E P : Type 0} (e : Ends E) (end : E) (old new : BusNode) (f : BusFault) →
     (P → IsOutOfRoom old.journal.room old.journal.entries new.journal.entries) → BreaksBy P e end old new f →
     BreaksInBit e old new end f
 breaks_whole e end old new (JournalFull k) more b = (b.0, more b.1)
@@ -64,14 +65,14 @@ breaks_whole e end old new (BadOrder k) more b = absurd b
 breaks_whole e end old new BitsSpent more b = absurd b
 
 -- a put was given back in the activation that is read, where nothing was entered yet
-pub gave_back : {E : Type 0} (e : Ends E) (s : Seat) (end : E) → IsSeat s → open_in s.activity ≡ 1 →
+pub gave_back : {E : Type 0} (e : Ends E) (s : BusNode) (end : E) → IsBusNode s → open_in s.activity ≡ 1 →
     Reads s.node s.journal.entries s.ended s.activity (free_in s.ledger) →
     IsGivenBack e (activation_of s.ledger) end → (off : Bool) (found : List FinishedPiece) →
     IsCut (record_of (s.journal.entries ++ off_as off)) found → HasVerdicts s.journal.entries (received found) →
     (HasOff (part s.journal.entries (suc s.ended)) → ⊥) → GivesBack e s.journal.entries s.journal.entries end
-gave_back e s end seat runs reads back off found cut verdicts on =
+gave_back e s end bus_node runs reads back off found cut verdicts on =
     let j = s.journal.entries in let stopped = reads.stopped in
-    let at : activation_of s.ledger ≡ read_in j = seat.own ∙ ap (λ n. suc n) (sym stopped) in
+    let at : activation_of s.ledger ≡ read_in j = bus_node.own ∙ ap (λ n. suc n) (sym stopped) in
     let F : ℕ → Type 0 = λ a. e.full back.last a in
     let O : ℕ → Type 0 = λ n. HasOff (part j (suc n)) → ⊥ in
     let opened = open_by s.activity s.node j s.ended (free_in s.ledger) runs reads in record {
@@ -112,7 +113,7 @@ gives_from e same_trans before mid j end here same ended opened back b = record 
 
 -- it broke off as bus-off was to be told
 pub breaks_after : {E : Type 0} (e : Ends E) → ((x y z : E) → e.same x y → e.same y z → e.same x z) → (x y : E)
-    (old mid new : Seat) (f : BusFault) → (link_of mid.ledger).node ≡ (link_of old.ledger).node →
+    (old mid new : BusNode) (f : BusFault) → (link_of mid.ledger).node ≡ (link_of old.ledger).node →
     (IsFullFor mid.journal.room mid.journal.entries Off → IsOutOfRoom old.journal.room
     old.journal.entries new.journal.entries) →
     stops_of mid.journal.entries ≡ stops_of old.journal.entries →

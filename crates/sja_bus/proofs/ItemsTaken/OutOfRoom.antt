@@ -2,20 +2,20 @@
 use Rattle.std.proofs.Common.{◌≡◌, arith, Option, ◌+◌, ◌≤◌, ℕ, Bool, true, false, None, Some, List, [], ◌∷◌, ◌++◌}
 use Rattle.std.proofs.Common.{length, refl, sym, ap, ◌∙◌, subst, append_assoc, append-nil}
 use Rattle.std.proofs.lemmas.List.{length-append}
-use Rattle.can_bits.specs.declared.level.Level.{Level}
+use Rattle.can_levels.specs.declared.level.Level.{Level}
 use Rattle.can_node.specs.declared.node.Node.{Node}
-use Rattle.sja_link.specs.declared.entry.Entry.{Entry}
-use Rattle.sja_link.specs.declared.entry.Entry.TheVariants.{Bit, Off}
-use Rattle.sja_link.specs.declared.verdict.Verdict.{Verdict}
-use Rattle.sja_link.specs.declared.verdict.Verdict.TheVariants.{Stored, Overrun}
-use Rattle.sja_link.specs.Between.{between_bits}
-use Rattle.sja_link.specs.Written.{Room, IsFullFor}
-use Rattle.sja_link.proofs.JournalEntries.Rooms.{HasFree, between_both, bit_more}
-use Rattle.sja_link.specs.Parts.{part}
-use Rattle.sja_link.specs.Verdicts.{IsDue, IsLawful, entry_of}
-use Rattle.sja_link.specs.BitEntries.{MayHaveVerdict, judged_as, off_as}
-use Rattle.sja_wire.specs.OutOfRoom.{IsOutOfRoom}
-use Rattle.sja_wire.specs.Telling.{is_overrun}
+use Rattle.sja_journal.specs.declared.entry.Entry.{Entry}
+use Rattle.sja_journal.specs.declared.entry.Entry.TheVariants.{Bit, Off}
+use Rattle.sja_journal.specs.declared.verdict.Verdict.{Verdict}
+use Rattle.sja_journal.specs.declared.verdict.Verdict.TheVariants.{Stored, Overrun}
+use Rattle.sja_journal.specs.Between.{between_bits}
+use Rattle.sja_journal.specs.Written.{Room, IsFullFor}
+use Rattle.sja_journal.proofs.JournalEntries.Rooms.{HasFree, between_both, bit_more}
+use Rattle.sja_journal.specs.Parts.{part}
+use Rattle.sja_journal.specs.Verdicts.{IsDue, IsLawful, entry_of}
+use Rattle.sja_journal.specs.BitEntries.{MayHaveVerdict, judged_as, off_as}
+use Rattle.sja_bus_rules.specs.OutOfRoom.{IsOutOfRoom}
+use Rattle.sja_bus_rules.specs.Telling.{is_overrun}
 use Rattle.sja_bus.specs.Inside.Following.{FollowsBit}
 use Rattle.sja_bus.specs.Inside.Taking.{IsJudgedShort}
 use Rattle.sja_bus.proofs.WholeBus.Lawfuls.{lawful_of}

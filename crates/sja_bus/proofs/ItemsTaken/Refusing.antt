@@ -7,33 +7,34 @@ use Rattle.std.proofs.lemmas.Bool.{cases_eq}
 use Rattle.std.proofs.lemmas.Slice.Zip.{AllZip-long as each_length}
 use Rattle.std.proofs.lemmas.List.{length-append, get_or-set_same as set_here, get_or-set_other as set_else}
 use Rattle.std.proofs.lemmas.List.{get_or_append_left, get_or_default as or_same, get_or_push}
-use Rattle.sja_link.specs.Written.{Room}
-use Rattle.sja_link.specs.declared.entry.Entry.{Entry}
+use Rattle.sja_journal.specs.Written.{Room}
+use Rattle.sja_journal.specs.declared.entry.Entry.{Entry}
 use Rattle.lemmas.proofs.Related.{each_at}
 use Rattle.sja_link.specs.declared.bus_end.BusEnd.{Ghosts as Ends}
-use Rattle.sja_link.specs.Lists.{with_taken}
-use Rattle.sja_link.specs.Accounts.{Account, account}
+use Rattle.sja_journal.specs.Lists.{with_taken}
+use Rattle.sja_journal.specs.Accounts.{Account, account}
 use Rattle.sja_link.specs.BusLedgers.{link_of}
-use Rattle.sja_wire.specs.declared.bus_fault.BusFault.{BusFault}
-use Rattle.sja_bus.specs.declared.seat.Seat.{Seat}
-use Rattle.sja_wire.specs.Wire.{journal_at}
-use Rattle.sja_link.specs.Links.{HaveLinks, Kept}
-use Rattle.sja_link.specs.Activations.{HasActivations}
-use Rattle.sja_link.specs.Opening.{BeginsWithin}
-use Rattle.sja_link.specs.OutOfOrder.{read_in}
-use Rattle.sja_link.specs.Inside.Moving.{Goes}
-use Rattle.sja_link.specs.BitEntries.{MayHaveItems}
-use Rattle.sja_link.proofs.Growing.Activations.{has_activations}
-use Rattle.sja_wire.specs.Reasons.{IsEndAt, IsRefusedFor, RefusesItem, IsTakenAndRefused, room_for}
-use Rattle.sja_bus.specs.Inside.Seats.{IsSound}
+use Rattle.sja_journal.specs.declared.bus_fault.BusFault.{BusFault}
+use Rattle.sja_bus.specs.declared.bus_node.BusNode.{BusNode}
+use Rattle.sja_bus_rules.specs.Wire.{journal_at}
+use Rattle.sja_journal.specs.Links.{HaveLinks, Kept}
+use Rattle.sja_journal.specs.Activations.{HasActivations}
+use Rattle.sja_journal.specs.Opening.{BeginsWithin}
+use Rattle.sja_journal.specs.OutOfOrder.{read_in}
+use Rattle.sja_link.specs.Moving.{Goes}
+use Rattle.sja_journal.specs.BitEntries.{MayHaveItems}
+use Rattle.sja_journal.proofs.Growing.Activations.{has_activations}
+use Rattle.sja_bus_rules.specs.Reasons.{IsEndAt, IsRefusedFor, RefusesItem, IsTakenAndRefused, room_for}
+use Rattle.sja_bus.specs.Inside.BusNodes.{IsSound}
 use Rattle.sja_bus.specs.Inside.Taking.{RefusesHere}
-use Rattle.sja_bus.specs.Inside.Refusing.{HaveRoom, SeatRefuses}
+use Rattle.sja_bus.specs.Inside.Refusing.{HaveRoom, BusNodeRefuses}
 use Rattle.sja_bus.specs.Inside.Rows.{AreBegun, AreReady, GoesAll, Done, journals_of}
 use Rattle.sja_bus.proofs.AllNodes.Running.{journal_is, count_is}
 
 -- an item that the link of the activation read showed, after other items
 pub refuses_here : {E : Type 0} (e : Ends E) → ((x y : E) → e.same x y → e.links y ≡ e.links x) →
-    (before : List Entry) (old new : Seat) (end here after : E) (room : Room) (node : ℕ) (f : BusFault) → IsSound old →
+    (before : List Entry) (old new : BusNode) (end here after : E) (room : Room) (node : ℕ) (f : BusFault) →
+    IsSound old →
     (link_of old.ledger).node ≡ node → old.journal.room ≡ room → MayHaveItems before old.journal.entries →
     BeginsWithin (e.links end) before old.journal.entries →
     Goes e.same e.stands end here before old.journal.entries → RefusesHere e here after old new f →
@@ -74,14 +75,15 @@ refuses_from e room before j end here after node f many back r = record {
 }
 
 -- one of many, after those before it had their turn
-pub refuses_seat : {E : Type 0} (e : Ends E) → ((x y : E) → e.same x y → e.links y ≡ e.links x) →
-    (R : ℕ → Seat → Seat → Type 0) (seats now : List Seat) (links here : List E) (k : ℕ) (s new : Seat) (d end : E)
-    (f : BusFault) → k < length seats → k < length here → length now ≡ length seats → AreReady now →
-    GoesAll e.same e.stands seats now links here → Done R k seats now →
+pub refuses_bus_node : {E : Type 0} (e : Ends E) → ((x y : E) → e.same x y → e.links y ≡ e.links x) →
+    (R : ℕ → BusNode → BusNode → Type 0) (bus_nodes now : List BusNode) (links here : List E) (k : ℕ)
+    (s new : BusNode) (d end : E)
+    (f : BusFault) → k < length bus_nodes → k < length here → length now ≡ length bus_nodes → AreReady now →
+    GoesAll e.same e.stands bus_nodes now links here → Done R k bus_nodes now →
     RefusesItem e (slice_index_or now k s).journal.room (slice_index_or now k s).journal.entries
     new.journal.entries (slice_index_or here k d) end (link_of (slice_index_or now k s).ledger).node f →
-    SeatRefuses e seats (slice_set now k new) links (slice_set here k end) f
-refuses_seat {E} e same_links R seats now links here k s new d end f few there len ready goes done r =
+    BusNodeRefuses e bus_nodes (slice_set now k new) links (slice_set here k end) f
+refuses_bus_node {E} e same_links R bus_nodes now links here k s new d end f few there len ready goes done r =
     let near : k < length now = omega (arith, few, len) in
     let own = (ready k s near).own in
     let N : ℕ → Type 0 = λ n. RefusesItem e (slice_index_or now k s).journal.room
@@ -96,43 +98,45 @@ refuses_seat {E} e same_links R seats now links here k s new d end f few there l
       end_after = end;
       is_after = λ b. set_here here k end b there;
       refuses = λ t.
-          let same_seat : slice_index_or now k s ≡ slice_index_or seats k t = or_same now k s t near
+          let same_bus_node : slice_index_or now k s ≡ slice_index_or bus_nodes k t = or_same now k s t near
           ∙ (done k t few).1 (omega arith) in
-          let this : slice_index_or now k t ≡ slice_index_or seats k t = (done k t few).1 (omega arith) in
-          let was = slice_index_or seats k t in
-          let P : Seat → Type 0 = λ x. RefusesItem e x.journal.room x.journal.entries new.journal.entries
+          let this : slice_index_or now k t ≡ slice_index_or bus_nodes k t = (done k t few).1 (omega arith) in
+          let was = slice_index_or bus_nodes k t in
+          let P : BusNode → Type 0 = λ x. RefusesItem e x.journal.room x.journal.entries new.journal.entries
           (slice_index_or here k d) end k f in
-          let Q : Seat → Type 0 = λ x. RefusesItem e was.journal.room was.journal.entries x.journal.entries given
+          let Q : BusNode → Type 0 = λ x. RefusesItem e was.journal.room was.journal.entries x.journal.entries given
           end k f in
           subst Q (sym (set_here now k new t near))
           (refuses_from e was.journal.room was.journal.entries new.journal.entries given
           (slice_index_or here k d) end k f (each_at e.same e.links same_links links here k d goes.sames)
-          (λ h kept. subst (λ (x : Seat). Kept e.stands x.journal.entries (slice_index_or here k d) h) this
+          (λ h kept. subst (λ (x : BusNode). Kept e.stands x.journal.entries (slice_index_or here k d) h) this
           (goes.kept k t d h few kept))
-          (subst P same_seat (subst N own r)));
+          (subst P same_bus_node (subst N own r)));
     }
 
 -- the reserved entries, where one has as many as before
-pub rooms_one : (n : ℕ → Room) (seats : List Seat) (k : ℕ) (s new : Seat) → k < length seats →
-    new.journal.room ≡ (slice_index_or seats k s).journal.room → HaveRoom n seats → HaveRoom n (slice_set seats k new)
-rooms_one n seats k s new few same was m t near = elim (cases_eq k m) [
+pub rooms_one : (n : ℕ → Room) (bus_nodes : List BusNode) (k : ℕ) (s new : BusNode) → k < length bus_nodes →
+    new.journal.room ≡ (slice_index_or bus_nodes k s).journal.room → HaveRoom n bus_nodes →
+    HaveRoom n (slice_set bus_nodes k new)
+rooms_one n bus_nodes k s new few same was m t near = elim (cases_eq k m) [
   | inl eq ↦
-      let e : slice_index_or (slice_set seats k new) m t ≡ new =
-      ap (λ i. slice_index_or (slice_set seats k new) i t) (sym eq) ∙ set_here seats k new t few in
-      ap (λ (x : Seat). x.journal.room) e ∙ same ∙ was k s few ∙ ap n eq
+      let e : slice_index_or (slice_set bus_nodes k new) m t ≡ new =
+      ap (λ i. slice_index_or (slice_set bus_nodes k new) i t) (sym eq) ∙ set_here bus_nodes k new t few in
+      ap (λ (x : BusNode). x.journal.room) e ∙ same ∙ was k s few ∙ ap n eq
   | inr ne ↦
-      let e : slice_index_or (slice_set seats k new) m t ≡ slice_index_or seats m t =
-      set_else seats k m new t (λ x. ne (sym x)) in
-      ap (λ (x : Seat). x.journal.room) e ∙ was m t (rw length-set at near)
+      let e : slice_index_or (slice_set bus_nodes k new) m t ≡ slice_index_or bus_nodes m t =
+      set_else bus_nodes k m new t (λ x. ne (sym x)) in
+      ap (λ (x : BusNode). x.journal.room) e ∙ was m t (rw length-set at near)
 ]
 
-pub rooms_push : (n : ℕ → Room) (seats : List Seat) (x : Seat) → x.journal.room ≡ n (length seats) → HaveRoom n seats →
-    HaveRoom n (seats ++ x ∷ [])
-rooms_push n seats x is was k s few = elim (cases_eq k (length seats)) [
-  | inl e ↦ ap (λ (y : Seat). y.journal.room) (get_or_push seats x s k (sym e)) ∙ is ∙ ap n (sym e)
+pub rooms_push : (n : ℕ → Room) (bus_nodes : List BusNode) (x : BusNode) → x.journal.room ≡ n (length bus_nodes) →
+    HaveRoom n bus_nodes →
+    HaveRoom n (bus_nodes ++ x ∷ [])
+rooms_push n bus_nodes x is was k s few = elim (cases_eq k (length bus_nodes)) [
+  | inl e ↦ ap (λ (y : BusNode). y.journal.room) (get_or_push bus_nodes x s k (sym e)) ∙ is ∙ ap n (sym e)
   | inr ne ↦
-      let near : k < length seats = let l = length-append seats (x ∷ []) in omega (arith, l, few, ne) in
-      ap (λ (y : Seat). y.journal.room) (get_or_append_left seats (x ∷ []) s k near) ∙ was k s near
+      let near : k < length bus_nodes = let l = length-append bus_nodes (x ∷ []) in omega (arith, l, few, ne) in
+      ap (λ (y : BusNode). y.journal.room) (get_or_append_left bus_nodes (x ∷ []) s k near) ∙ was k s near
 ]
 
 -- ---- by the journals of all
@@ -142,15 +146,15 @@ pub links_at : {E : Type 0} (links_of : E → ℕ) (starts : ℕ) (links : List 
     HaveLinks links_of starts links → k < length links → IsEndAt links k end → links_of end ≡ starts
 links_at links_of starts links k end many few is = ap links_of (sym (is end)) ∙ many k end few
 
-pub not_taken : {E : Type 0} (e : Ends E) (starts bits : ℕ) (steps : List ℕ) (seats after : List Seat)
-    (links links_after : List E) (f : BusFault) → length after ≡ length seats → length links ≡ length seats →
-    AreBegun starts seats → HaveLinks e.links starts links → HaveRoom (room_for bits steps) seats →
-    SeatRefuses e seats after links links_after f →
-    IsTakenAndRefused e bits steps (journals_of seats) (journals_of after) links links_after f
+pub not_taken : {E : Type 0} (e : Ends E) (starts bits : ℕ) (steps : List ℕ) (bus_nodes after : List BusNode)
+    (links links_after : List E) (f : BusFault) → length after ≡ length bus_nodes → length links ≡ length bus_nodes →
+    AreBegun starts bus_nodes → HaveLinks e.links starts links → HaveRoom (room_for bits steps) bus_nodes →
+    BusNodeRefuses e bus_nodes after links links_after f →
+    IsTakenAndRefused e bits steps (journals_of bus_nodes) (journals_of after) links links_after f
 not_taken e starts bits steps [] after links links_after f len ends begun many rooms r =
     let none = r.few in absurd (omega (arith, none))
-not_taken e starts bits steps (s ∷ seats) after links links_after f len ends begun many rooms r =
-    let all = s ∷ seats in let cb = count_is all in let k = r.node in let few = r.few in
+not_taken e starts bits steps (s ∷ bus_nodes) after links links_after f len ends begun many rooms r =
+    let all = s ∷ bus_nodes in let cb = count_is all in let k = r.node in let few = r.few in
     let was = slice_index_or all k s in let now = slice_index_or after k s in
     let P : List Entry → Type 0 = λ j. RefusesItem e (room_for bits steps k) j (journal_at (journals_of after) k)
     r.end r.end_after k f in

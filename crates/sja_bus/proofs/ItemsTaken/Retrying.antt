@@ -1,7 +1,7 @@
 -- A put that the end has given back each time so far.
 use Rattle.std.proofs.Common.{◌≡◌, ◌+◌, ◌<◌, ℕ, arith, inl, inr, refl, sym, ap, subst, ◌∙◌}
 use Rattle.std.proofs.lemmas.Bool.{cases_eq}
-use Rattle.sja_link.specs.Lists.{Lists, OthersStand, Carries, Keeps}
+use Rattle.sja_journal.specs.Lists.{Lists, OthersStand, Carries, Keeps}
 use Rattle.sja_link.specs.BusLedgers.{activation_of}
 use Rattle.sja_link.specs.declared.bus_end.BusEnd.{Ghosts as Ends}
 use Rattle.sja_link.specs.declared.bus_ledger.BusLedger.{BusLedger}

@@ -3,30 +3,30 @@ use Rattle.std.proofs.Common.{◌≡◌, ℕ, suc, ◌+◌, ◌<◌, Bool, true,
 use Rattle.std.proofs.Common.{length, take, drop, refl, sym, ap, ◌∙◌, subst, append_assoc, append-nil, arith, inl, inr}
 use Rattle.std.specs.Prelude.{slice_index_or}
 use Rattle.std.proofs.lemmas.Bool.{cases_eq}
-use Rattle.can_bits.specs.declared.level.Level.{Level}
+use Rattle.can_levels.specs.declared.level.Level.{Level}
 use Rattle.sja_link.specs.declared.bus_end.BusEnd.{Ghosts as Ends}
-use Rattle.sja_link.specs.declared.up.Up.{Up}
-use Rattle.sja_link.specs.declared.verdict.Verdict.{Verdict}
-use Rattle.sja_link.specs.declared.verdict.Verdict.TheVariants.{Stored as ToStore, Overrun as ToLose}
-use Rattle.sja_link.specs.declared.entry.Entry.{Entry}
-use Rattle.sja_link.specs.declared.entry.Entry.TheVariants.{Bit, Up as Item, Abort, Stored, Overrun, Off}
-use Rattle.sja_link.specs.Accounts.{account}
+use Rattle.sja_journal.specs.declared.up.Up.{Up}
+use Rattle.sja_journal.specs.declared.verdict.Verdict.{Verdict}
+use Rattle.sja_journal.specs.declared.verdict.Verdict.TheVariants.{Stored as ToStore, Overrun as ToLose}
+use Rattle.sja_journal.specs.declared.entry.Entry.{Entry}
+use Rattle.sja_journal.specs.declared.entry.Entry.TheVariants.{Bit, Up as Item, Abort, Stored, Overrun, Off}
+use Rattle.sja_journal.specs.Accounts.{account}
 use Rattle.lemmas.specs.Gathering.{gathered}
-use Rattle.sja_link.specs.Parts.{part}
-use Rattle.sja_link.specs.Places.{past, place_of}
-use Rattle.sja_link.specs.Carried.{taken_in, taken_of, put_in, put_of}
+use Rattle.sja_journal.specs.Parts.{part}
+use Rattle.sja_journal.specs.Places.{past, place_of}
+use Rattle.sja_journal.specs.Carried.{taken_in, taken_of, put_in, put_of}
 use Rattle.lemmas.proofs.Gathered.{gathered_push, total_push}
-use Rattle.sja_link.proofs.JournalEntries.Entering.{part_here, part_else}
+use Rattle.sja_journal.proofs.JournalEntries.Entering.{part_here, part_else}
 use Rattle.sja_regs.specs.declared.orders.Orders.{Orders}
 use Rattle.sja_regs.specs.declared.bus_turn.BusTurn.{BusTurn}
 use Rattle.sja_bus.specs.declared.struck_nodes.StruckNodes.{StruckNodes}
-use Rattle.sja_bus.specs.declared.seat.Seat.{Seat}
-use Rattle.sja_wire.specs.Wire.{journal_at}
-use Rattle.sja_link.specs.Links.{Kept, stops_in, stops_of}
-use Rattle.sja_wire.specs.Opens.{Opens}
-use Rattle.sja_link.specs.BitEntries.{HasBit, judged_as, off_as, abort_as, entries_of_items}
+use Rattle.sja_bus.specs.declared.bus_node.BusNode.{BusNode}
+use Rattle.sja_bus_rules.specs.Wire.{journal_at}
+use Rattle.sja_journal.specs.Links.{Kept, stops_in, stops_of}
+use Rattle.sja_bus_rules.specs.Opens.{Opens}
+use Rattle.sja_journal.specs.BitEntries.{HasBit, judged_as, off_as, abort_as, entries_of_items}
 use Rattle.sja_bus.specs.TakingAll.{HasTaken, TakesAll}
-use Rattle.sja_bus.specs.Inside.Rows.{AreReady, EachSeat, SeatOpens, SeatTurns, GoesAll, AllRead, journals_of}
+use Rattle.sja_bus.specs.Inside.Rows.{AreReady, EachBusNode, BusNodeOpens, BusNodeTurns, GoesAll, AllRead, journals_of}
 use Rattle.sja_bus.specs.Inside.RowTakes.{RowTakesAll}
 use Rattle.sja_bus.proofs.AllNodes.Journals.{all_dry}
 use Rattle.sja_bus.proofs.AllNodes.Running.{journal_is, count_is}
@@ -98,16 +98,18 @@ put_in_opening has_orders j k a o =
     ap (λ (l : List Entry). put_of (part l a)) o.aborts.whole ∙ put_abort o.aborts.changed o.taken a
     ∙ ap (λ (l : List Entry). put_of (part l a)) o.items.whole ∙ put_items o.items.items j a
 
--- ---- all seats
+-- ---- all bus nodes
 
 module _ {E : Type 0} (ends : Ends E) where
   pub row_takes : (orders_are : ℕ → Orders → Type 0) (was_told : ℕ → BusTurn → Type 0) (was_kept : ℕ → Type 0)
-      (struck : StruckNodes) (level : Level) (seats opened after : List Seat) (links between : List E) →
-      length opened ≡ length seats → length after ≡ length opened → AreReady opened → AreReady after →
-      EachSeat (SeatOpens orders_are) seats opened → EachSeat (SeatTurns was_told was_kept struck level) opened after →
-      GoesAll ends.same ends.stands seats opened links between → AllRead ends.dry opened between →
-      RowTakesAll ends seats after links
-  row_takes orders_are was_told was_kept struck level seats opened after links between co ca ro ra opens turns goes read
+      (struck : StruckNodes) (level : Level) (bus_nodes opened after : List BusNode) (links between : List E) →
+      length opened ≡ length bus_nodes → length after ≡ length opened → AreReady opened → AreReady after →
+      EachBusNode (BusNodeOpens orders_are) bus_nodes opened →
+      EachBusNode (BusNodeTurns was_told was_kept struck level) opened after →
+      GoesAll ends.same ends.stands bus_nodes opened links between → AllRead ends.dry opened between →
+      RowTakesAll ends bus_nodes after links
+  row_takes orders_are was_told was_kept struck level bus_nodes opened after links between co ca ro ra opens turns goes
+      read
       = record {
         between = between;
         sames = goes.sames;
@@ -121,7 +123,7 @@ module _ {E : Type 0} (ends : Ends E) where
             let P : ℕ → Type 0 = λ m. ends.dry (slice_index_or between k d) (suc m) in subst P e (read k s d here);
         taken = λ k s d h few was a.
             let here : k < length opened = omega (arith, few, co) in
-            let j = (slice_index_or seats k s).journal.entries in
+            let j = (slice_index_or bus_nodes k s).journal.entries in
             let o = (slice_index_or opened k s).journal.entries in
             let n = (slice_index_or after k s).journal.entries in
             let end = slice_index_or between k d in
@@ -133,20 +135,20 @@ module _ {E : Type 0} (ends : Ends E) where
       }
 
   -- by the journals
-  all_takes : (seats after : List Seat) (links : List E) → length after ≡ length seats → AreReady after →
-      RowTakesAll ends seats after links → TakesAll ends (journals_of seats) (journals_of after) links
+  all_takes : (bus_nodes after : List BusNode) (links : List E) → length after ≡ length bus_nodes → AreReady after →
+      RowTakesAll ends bus_nodes after links → TakesAll ends (journals_of bus_nodes) (journals_of after) links
   all_takes [] after links len ready t = record {
     between = t.between;
     sames = t.sames;
     shown = all_dry ends.dry after t.between ready t.read;
     taken = λ node d h few. absurd (omega arith);
   }
-  all_takes (s ∷ seats) after links len ready t = record {
+  all_takes (s ∷ bus_nodes) after links len ready t = record {
     between = t.between;
     sames = t.sames;
     shown = all_dry ends.dry after t.between ready t.read;
     taken = λ node d h few kept.
-        let all = s ∷ seats in let cb = count_is all in
+        let all = s ∷ bus_nodes in let cb = count_is all in
         let near : node < length all = omega (arith, few, cb) in
         let old = (slice_index_or all node s).journal.entries in
         let P : List Entry → Type 0 = λ j. Kept ends.stands j (slice_index_or links node d) h in
@@ -160,14 +162,14 @@ module _ {E : Type 0} (ends : Ends E) where
   }
 
   -- as they are written back
-  pub takes_back : (was lent now : List Seat) (n : ℕ) (journals : List (List Entry)) (links : List E) →
+  pub takes_back : (was lent now : List BusNode) (n : ℕ) (journals : List (List Entry)) (links : List E) →
       n ≡ length was → lent ≡ was → length now ≡ length lent → AreReady now → journals_of was ≡ journals →
       RowTakesAll ends lent now links →
       TakesAll ends journals (journals_of (take n (now ++ drop (length now) was))) links
   takes_back was lent now n journals links all is count ready seen t =
-      let len : length now ≡ length was = count ∙ ap (λ (l : List Seat). length l) is in
-      let G : List Seat → Type 0 = λ l. RowTakesAll ends l now links in
+      let len : length now ≡ length was = count ∙ ap (λ (l : List BusNode). length l) is in
+      let G : List BusNode → Type 0 = λ l. RowTakesAll ends l now links in
       let P : List (List Entry) → Type 0 = λ l. TakesAll ends l (journals_of now) links in
-      let Q : List Seat → Type 0 = λ l. TakesAll ends journals (journals_of l) links in
+      let Q : List BusNode → Type 0 = λ l. TakesAll ends journals (journals_of l) links in
       subst Q (sym (are_back was now n all len))
       (subst P seen (all_takes was now links len ready (subst G is t)))

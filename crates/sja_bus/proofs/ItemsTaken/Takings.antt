@@ -4,44 +4,46 @@ use Rattle.std.proofs.Common.{ap, ◌∙◌, subst, arith}
 use Rattle.std.proofs.lemmas.List.{length-append}
 use Rattle.std.specs.Prelude.{Result, Ok, Err, OnOk, IfErr}
 use Rattle.can_node.specs.declared.node.Node.{Node}
-use Rattle.can_node.specs.declared.request.Request.{Request}
-use Rattle.can_node.specs.Context.{ContextValue, is_held}
-use Rattle.can_node.specs.FinishedPieces.{FinishedPiece}
-use Rattle.can_node.specs.Cut.{IsCut}
-use Rattle.can_node.specs.NextBit.{now_in}
+use Rattle.can_node_rules.specs.declared.request.Request.{Request}
+use Rattle.can_node_rules.specs.Context.{ContextValue, is_held}
+use Rattle.can_node_rules.specs.FinishedPieces.{FinishedPiece}
+use Rattle.can_node_rules.specs.Cut.{IsCut}
+use Rattle.can_node_rules.specs.NextBit.{now_in}
 use Rattle.can_node.specs.Stands.{Requests}
-use Rattle.sja_link.specs.declared.up.Up.{Up}
-use Rattle.sja_link.specs.declared.up.Up.TheVariants.{Start, Credit, Send, Stop}
-use Rattle.sja_link.specs.declared.entry.Entry.{Entry}
-use Rattle.sja_link.specs.Free.{IsFree, credit_in, bytes_in}
+use Rattle.sja_journal.specs.declared.up.Up.{Up}
+use Rattle.sja_journal.specs.declared.up.Up.TheVariants.{Start, Credit, Send, Stop}
+use Rattle.sja_journal.specs.declared.entry.Entry.{Entry}
+use Rattle.sja_journal.specs.Free.{IsFree, credit_in, bytes_in}
 use Rattle.sja_link.specs.BusLedgers.{link_of}
-use Rattle.sja_link.specs.Parts.{part, entry_at}
-use Rattle.sja_link.specs.Records.{record_of}
-use Rattle.sja_link.specs.Links.{stops_in, stops_of}
-use Rattle.sja_link.specs.Written.{Room, Written, Fits, IsFullFor}
-use Rattle.sja_link.proofs.JournalEntries.Entering.{of_part_later}
+use Rattle.sja_journal.specs.Parts.{part, entry_at}
+use Rattle.sja_journal.specs.Records.{record_of}
+use Rattle.sja_journal.specs.Links.{stops_in, stops_of}
+use Rattle.sja_journal.specs.Written.{Room, Written, Fits, IsFullFor}
+use Rattle.sja_journal.proofs.JournalEntries.Entering.{of_part_later}
 use Rattle.lemmas.proofs.Gathered.{total_few, total_push}
 use Rattle.sja_bus.specs.declared.activity.Activity.{Activity}
 use Rattle.sja_bus.specs.declared.activity.Activity.TheVariants.{Between, Running, Off, OffAndAsked}
-use Rattle.sja_link.specs.declared.entry.Entry.TheVariants.{Bit, Up as Item, Abort, Stored, Overrun, Off as OffEntry}
-use Rattle.sja_link.specs.Places.{past, place_of}
-use Rattle.sja_wire.specs.declared.bus_fault.BusFault.{BusFault}
-use Rattle.sja_wire.specs.declared.bus_fault.BusFault.TheVariants.{JournalFull}
-use Rattle.sja_bus.specs.declared.seat.Seat.{Seat}
-use Rattle.sja_link.specs.OutOfOrder.{HasAskedOff, IsOutOfOrder, IsAskedWrongly, MayCome}
-use Rattle.sja_link.specs.OutOfOrder.IsAskedWrongly.{outside, while_held, again_off}
+use Rattle.sja_journal.specs.declared.entry.Entry.TheVariants.{Bit, Up as Item, Abort, Stored, Overrun, Off as OffEntry}
+use Rattle.sja_journal.specs.Places.{past, place_of}
+use Rattle.sja_journal.specs.declared.bus_fault.BusFault.{BusFault}
+use Rattle.sja_journal.specs.declared.bus_fault.BusFault.TheVariants.{JournalFull}
+use Rattle.sja_bus.specs.declared.bus_node.BusNode.{BusNode}
+use Rattle.sja_journal.specs.OutOfOrder.{HasAskedOff, IsOutOfOrder, IsAskedWrongly, MayCome}
+use Rattle.sja_journal.specs.OutOfOrder.IsAskedWrongly.{outside, while_held, again_off}
 use Rattle.sja_bus.specs.Inside.Following.{Follows, Reads, open_in, is_on}
-use Rattle.sja_bus.specs.Inside.Seats.{IsSound, IsSeat, Pays}
+use Rattle.sja_bus.specs.Inside.BusNodes.{IsSound, IsBusNode, Pays}
 use Rattle.sja_bus.specs.Inside.Taking.{Takes, Refuses, IsFull}
-use Rattle.can_node.proofs.OneCut.SameCuts.{same_now}
+use Rattle.can_node_rules.proofs.OneCut.SameCuts.{same_now}
 use Rattle.sja_bus.proofs.Journal.OnBus.{cut_away}
-use Rattle.sja_bus.proofs.Links.Seating.{open_by, seat_stays}
+use Rattle.sja_bus.proofs.Links.BusNodeParts.{open_by, bus_node_stays}
 
--- a seat with another journal that has as many reserved entries
-pub seat_entered : (s new : Seat) → new ≡ record s { journal = new.journal } → new.journal.room ≡ s.journal.room →
-    IsSeat s → IsSeat new
-seat_entered s new same room h =
-    seat_stays s new (ap (λ (x : Seat). (link_of x.ledger).activation) same) (ap (λ (x : Seat). x.ended) same) room h
+-- a bus node with another journal that has as many reserved entries
+pub bus_node_entered : (s new : BusNode) → new ≡ record s { journal = new.journal } →
+    new.journal.room ≡ s.journal.room →
+    IsBusNode s → IsBusNode new
+bus_node_entered s new same room h =
+    bus_node_stays s new (ap (λ (x : BusNode). (link_of x.ledger).activation) same) (ap (λ (x : BusNode). x.ended)
+    same) room h
 
 -- a stop more is no more than the journal has reserved entries
 pub stop_fits : (room : Room) (j : List Entry) (ended : ℕ) → stops_of j ≡ ended →
@@ -62,22 +64,22 @@ stop_fits room j ended stopped fits =
     one_at_most OffEntry = omega arith
 
 -- the entry was written
-pub takes_entered : {A X P : Type 0} (r : Result A X) (old new : Seat) (item : Up) →
+pub takes_entered : {A X P : Type 0} (r : Result A X) (old new : BusNode) (item : Up) →
     (IsOutOfOrder old.journal.entries item → ⊥) → OnOk r P → (P → IsSound new) →
-    (Fits old.journal.room (old.journal.entries ++ Item item ∷ []) → IsSeat new) →
+    (Fits old.journal.room (old.journal.entries ++ Item item ∷ []) → IsBusNode new) →
     (past (place_of old.journal.entries) (Item item)).activation ≡ suc old.ended →
     OnOk r ((new.journal.entries ≡ old.journal.entries ++ Item item ∷ [])
     × Fits old.journal.room (old.journal.entries ++ Item item ∷ [])) →
     OnOk r (Takes old new item)
-takes_entered (Ok a) old new item due p f seat at ok = record {
+takes_entered (Ok a) old new item due p f bus_node at ok = record {
   due = due;
   sound = f p;
-  seat = seat ok.1;
+  bus_node = bus_node ok.1;
   fits = ok.1;
   stands = at;
   entered = ok.0;
 }
-takes_entered (Err x) old new item due p f seat at ok = tt
+takes_entered (Err x) old new item due p f bus_node at ok = tt
 
 -- no credit is taken between two activations, where all 64 bytes are free
 pub credit_open : (activity : Activity) (node : Node) (j : List Entry) (ended free left n : ℕ) → left ≤ 64 → 3 ≤ n →
@@ -139,7 +141,7 @@ may_come j item due other = record { in_order = due; good = λ bytes is bad. oth
 -- ---- one that isn't
 
 -- its entry found no room, where it may come there
-pub refused_full : {A : Type 0} (r : Result A BusFault) (old mid new : Seat) (item : Up) →
+pub refused_full : {A : Type 0} (r : Result A BusFault) (old mid new : BusNode) (item : Up) →
     (link_of mid.ledger).node ≡ (link_of old.ledger).node → mid.journal ≡ old.journal →
     MayCome old.journal.entries item →
     IfErr r (λ f. IsFull mid new (Item item) f) → IfErr r (λ f. Refuses old new item f)
@@ -161,7 +163,7 @@ held_by old new j request back on follows refused found cut =
           (same_now (record_of j) found follows.found cut follows.stands.cut) ∙ held
     ]
 
--- the seat runs in an open activation
+-- the bus node runs in an open activation
 pub held_wrongly : (old new : Node) (j : List Entry) (ended free : ℕ) (filter : _) (request back : Request) →
     Follows old j → Requests old new request (Err back) →
     Reads old j ended (Running filter) free → IsAskedWrongly j

@@ -3,30 +3,31 @@ use Rattle.std.proofs.Common.{◌≡◌, ℕ, Bool, true, false, Option, Some, N
 use Rattle.std.proofs.Common.{◌∙◌, subst, append-nil}
 use Rattle.can_frame.specs.Frame.{FrameValue}
 use Rattle.can_frame.specs.Message.{message}
-use Rattle.can_bits.specs.declared.level.Level.{Level}
-use Rattle.can_node.specs.declared.bit_events.BitEvents.{BitEvents}
+use Rattle.can_levels.specs.declared.level.Level.{Level}
+use Rattle.can_node_rules.specs.declared.bit_events.BitEvents.{BitEvents}
 use Rattle.can_node.specs.declared.node.Node.{Node}
-use Rattle.can_node.specs.Bits.{Bit as Levels}
-use Rattle.can_node.specs.Record.{RecordEntry as Event}
-use Rattle.can_node.specs.Record.RecordEntry.{OneBit as Took}
-use Rattle.can_node.specs.FinishedPieces.{Count, FinishedPiece, ReceivedFrame, counted, none_yet, received}
-use Rattle.can_node.specs.Events.{received_in}
-use Rattle.can_node.specs.Stands.{StandsAt, Samples, DrivesNext, closed_by}
-use Rattle.can_node.proofs.OneCut.Longer.{received_now}
-use Rattle.sja_link.specs.declared.verdict.Verdict.{Verdict}
-use Rattle.sja_link.specs.declared.verdict.Verdict.TheVariants.{Stored as ToStore, Overrun as ToLose}
-use Rattle.sja_link.specs.declared.entry.Entry.{Entry}
-use Rattle.sja_link.specs.declared.entry.Entry.TheVariants.{Bit, Off}
-use Rattle.sja_link.specs.Places.{place_of}
-use Rattle.sja_link.specs.Parts.{part}
-use Rattle.sja_link.specs.Records.{told, record_of}
-use Rattle.sja_link.specs.Verdicts.{filter_of, PassesAny, IsDue, HasVerdicts, entry_of}
-use Rattle.sja_link.proofs.JournalEntries.Entering.{record_push, record_counted, place_push}
-use Rattle.sja_link.proofs.Ledger.Judging.{filter_push, verdicts_quiet, verdicts_passed_by, verdicts_judged}
+use Rattle.can_node_rules.specs.Bits.{Bit as Levels}
+use Rattle.can_node_rules.specs.Record.{RecordEntry as Event}
+use Rattle.can_node_rules.specs.Record.RecordEntry.{OneBit as Took}
+use Rattle.can_node_rules.specs.FinishedPieces.{Count, FinishedPiece, ReceivedFrame, counted, none_yet, received}
+use Rattle.can_node_rules.specs.Events.{received_in}
+use Rattle.can_node.specs.Stands.{StandsAt, Samples, DrivesNext}
+use Rattle.can_node_rules.specs.Outcomes.{closed_by}
+use Rattle.can_node_rules.proofs.OneCut.Longer.{received_now}
+use Rattle.sja_journal.specs.declared.verdict.Verdict.{Verdict}
+use Rattle.sja_journal.specs.declared.verdict.Verdict.TheVariants.{Stored as ToStore, Overrun as ToLose}
+use Rattle.sja_journal.specs.declared.entry.Entry.{Entry}
+use Rattle.sja_journal.specs.declared.entry.Entry.TheVariants.{Bit, Off}
+use Rattle.sja_journal.specs.Places.{place_of}
+use Rattle.sja_journal.specs.Parts.{part}
+use Rattle.sja_journal.specs.Records.{told, record_of}
+use Rattle.sja_journal.specs.Verdicts.{filter_of, PassesAny, IsDue, HasVerdicts, entry_of}
+use Rattle.sja_journal.proofs.JournalEntries.Entering.{record_push, record_counted, place_push}
+use Rattle.sja_journal.proofs.Ledger.Judging.{filter_push, verdicts_quiet, verdicts_passed_by, verdicts_judged}
 use Rattle.sja_bus.specs.Inside.Following.{Follows, FollowsBit}
-use Rattle.sja_link.specs.Inside.Entries.{off_left}
-use Rattle.sja_link.proofs.Growing.BitRecords.{entries_split}
-use Rattle.can_node.proofs.OneCut.Longer.{received_more}
+use Rattle.sja_journal.specs.Entries.{off_left}
+use Rattle.sja_journal.proofs.Growing.BitRecords.{entries_split}
+use Rattle.can_node_rules.proofs.OneCut.Longer.{received_more}
 
 -- a frame that a bit at the end of this journal finished
 abbrev pub frame_now : List Entry → FrameValue → ReceivedFrame

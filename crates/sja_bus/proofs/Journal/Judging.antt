@@ -1,19 +1,19 @@
 -- What the bus knows of the activation that it reads, where a verdict is due.
 use Rattle.std.proofs.Common.{◌≡◌, ℕ, List, [], ◌∷◌, ◌++◌, refl, sym, subst}
-use Rattle.can_bits.specs.declared.level.Level.{Level}
-use Rattle.sja_link.specs.declared.verdict.Verdict.{Verdict}
-use Rattle.sja_link.specs.declared.verdict.Verdict.TheVariants.{Stored as ToStore, Overrun as ToLose}
-use Rattle.sja_link.specs.declared.entry.Entry.{Entry}
-use Rattle.sja_link.specs.declared.entry.Entry.TheVariants.{Bit}
-use Rattle.sja_link.specs.Places.{JournalPlace, past, place_of}
-use Rattle.sja_link.specs.Parts.{part}
-use Rattle.sja_link.specs.Carried.{put_of}
+use Rattle.can_levels.specs.declared.level.Level.{Level}
+use Rattle.sja_journal.specs.declared.verdict.Verdict.{Verdict}
+use Rattle.sja_journal.specs.declared.verdict.Verdict.TheVariants.{Stored as ToStore, Overrun as ToLose}
+use Rattle.sja_journal.specs.declared.entry.Entry.{Entry}
+use Rattle.sja_journal.specs.declared.entry.Entry.TheVariants.{Bit}
+use Rattle.sja_journal.specs.Places.{JournalPlace, past, place_of}
+use Rattle.sja_journal.specs.Parts.{part}
+use Rattle.sja_journal.specs.Carried.{put_of}
 use Rattle.lemmas.specs.Gathering.{total}
 use Rattle.sja_link.specs.World.{is_off}
-use Rattle.sja_link.specs.Free.{IsFree}
-use Rattle.sja_link.specs.Verdicts.{EndsInBit, IsPrompt, IsFair, IsDue, entry_of}
-use Rattle.sja_link.proofs.JournalEntries.Entering.{part_here}
-use Rattle.sja_link.proofs.Ledger.Freeing.{free_same}
+use Rattle.sja_journal.specs.Free.{IsFree}
+use Rattle.sja_journal.specs.Verdicts.{EndsInBit, IsPrompt, IsFair, IsDue, entry_of}
+use Rattle.sja_journal.proofs.JournalEntries.Entering.{part_here}
+use Rattle.sja_journal.proofs.Ledger.Freeing.{free_same}
 use Rattle.sja_link.specs.Orderly.{IsRunning, IsOrderly}
 use Rattle.sja_bus.proofs.Journal.Parted.{marks_in}
 

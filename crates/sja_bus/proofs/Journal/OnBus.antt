@@ -1,26 +1,27 @@
 -- A node that was started, and neither stopped nor put off the bus, isn't in reset.
 use Rattle.std.proofs.Common.{◌≡◌, ◌≢◌, Bool, true, false, List, [], ◌∷◌, ◌++◌, map, refl, sym, ◌∙◌}
-use Rattle.can_bits.specs.declared.level.Level.{Level}
-use Rattle.can_node.specs.Bits.{Bit, recessive_bits}
-use Rattle.can_node.specs.Context.{ContextValue}
-use Rattle.can_node.specs.Pieces.{Place, Piece}
-use Rattle.can_node.specs.Pieces.Place.{AtReset}
-use Rattle.can_node.specs.Frames.{Receives, Transmits}
-use Rattle.can_node.specs.Frames.Receives.{reception, broken}
-use Rattle.can_node.specs.Frames.Transmits.{sending, failed, lost}
-use Rattle.can_node.specs.Table.{Row}
-use Rattle.can_node.specs.Table.Row.{integration, idle, other, own, other_begun, own_begun, last_eof_bit}
-use Rattle.can_node.specs.Table.Row.{last_eof_bit_overload, flag, flag_fault, flag_passive, delimiter}
-use Rattle.can_node.specs.Table.Row.{delimiter_overload, delimiter_fault, interframe_space, interframe_space_sof}
-use Rattle.can_node.specs.Table.Row.{suspend_transmission_sof, intermission_overload, intermission_overload_second}
-use Rattle.can_node.specs.Record.{RecordEntry as Event, Inner}
-use Rattle.can_node.specs.Record.RecordEntry.{Stop, OneBit, BusOff}
-use Rattle.can_node.specs.Record.Inner.{none_left, samples, sends, aborts}
-use Rattle.can_node.specs.FinishedPieces.{Count, FinishedPiece}
-use Rattle.can_node.specs.Cut.{From, Move, IsOpenAt, IsCut}
-use Rattle.can_node.specs.Cut.From.{here, on}
-use Rattle.can_node.specs.Cut.Move.{piece, sent, aborted, started, stopped, off_within, off_after}
-use Rattle.can_node.specs.Cut.IsOpenAt.{rests, nothing, begun}
+use Rattle.can_levels.specs.declared.level.Level.{Level}
+use Rattle.can_node_rules.specs.Bits.{Bit, recessive_bits}
+use Rattle.can_node_rules.specs.Context.{ContextValue}
+use Rattle.can_node_rules.specs.Pieces.{Place, Piece}
+use Rattle.can_node_rules.specs.Pieces.Place.{AtReset}
+use Rattle.can_node_rules.specs.Frames.{Receives, Transmits}
+use Rattle.can_node_rules.specs.Frames.Receives.{reception, broken}
+use Rattle.can_node_rules.specs.Frames.Transmits.{sending, failed, lost}
+use Rattle.can_node_rules.specs.Table.{Row}
+use Rattle.can_node_rules.specs.Table.Row.{integration, idle, other, own, other_begun, own_begun, last_eof_bit}
+use Rattle.can_node_rules.specs.Table.Row.{last_eof_bit_overload, flag, flag_fault, flag_passive, delimiter}
+use Rattle.can_node_rules.specs.Table.Row.{delimiter_overload, delimiter_fault, interframe_space, interframe_space_sof}
+use Rattle.can_node_rules.specs.Table.Row.{suspend_transmission_sof, intermission_overload}
+use Rattle.can_node_rules.specs.Table.Row.{intermission_overload_second}
+use Rattle.can_node_rules.specs.Record.{RecordEntry as Event, Inner}
+use Rattle.can_node_rules.specs.Record.RecordEntry.{Stop, OneBit, BusOff}
+use Rattle.can_node_rules.specs.Record.Inner.{none_left, samples, sends, aborts}
+use Rattle.can_node_rules.specs.FinishedPieces.{Count, FinishedPiece}
+use Rattle.can_node_rules.specs.Cut.{From, Move, IsOpenAt, IsCut}
+use Rattle.can_node_rules.specs.Cut.From.{here, on}
+use Rattle.can_node_rules.specs.Cut.Move.{piece, sent, aborted, started, stopped, off_within, off_after}
+use Rattle.can_node_rules.specs.Cut.IsOpenAt.{rests, nothing, begun}
 use Rattle.sja_bus.specs.Inside.Following.{on_after, is_on}
 
 pub on_both : (b : Bool) (xs ys : List Event) → is_on b (xs ++ ys) ≡ is_on (is_on b xs) ys

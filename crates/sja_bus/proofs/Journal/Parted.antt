@@ -4,25 +4,25 @@ use Rattle.std.proofs.Common.{refl, sym, ap, ◌∙◌, subst, append_assoc, ari
 use Rattle.std.proofs.lemmas.Bool.{cases_eq}
 use Rattle.can_node.specs.declared.node.Node.{Node}
 use Rattle.can_node.specs.Stands.{InReset}
-use Rattle.sja_link.specs.declared.up.Up.TheVariants.{Start, Send, Stop, Credit}
-use Rattle.sja_link.specs.declared.entry.Entry.{Entry}
-use Rattle.sja_link.specs.declared.entry.Entry.TheVariants.{Bit, Up as Item, Abort, Stored, Overrun, Off}
-use Rattle.sja_link.specs.Places.{JournalPlace, first_place, past, place_of}
-use Rattle.sja_link.specs.Records.{told, record_of}
-use Rattle.sja_link.specs.Parts.{part}
-use Rattle.sja_link.specs.Free.{IsFree, credit_in, bytes_in}
-use Rattle.sja_link.proofs.JournalEntries.Entering.{place_push, record_push, part_here, part_else}
+use Rattle.sja_journal.specs.declared.up.Up.TheVariants.{Start, Send, Stop, Credit}
+use Rattle.sja_journal.specs.declared.entry.Entry.{Entry}
+use Rattle.sja_journal.specs.declared.entry.Entry.TheVariants.{Bit, Up as Item, Abort, Stored, Overrun, Off}
+use Rattle.sja_journal.specs.Places.{JournalPlace, first_place, past, place_of}
+use Rattle.sja_journal.specs.Records.{told, record_of}
+use Rattle.sja_journal.specs.Parts.{part}
+use Rattle.sja_journal.specs.Free.{IsFree, credit_in, bytes_in}
+use Rattle.sja_journal.proofs.JournalEntries.Entering.{place_push, record_push, part_here, part_else}
 use Rattle.lemmas.proofs.Gathered.{total_push}
-use Rattle.sja_link.proofs.Ledger.Freeing.{free_push}
-use Rattle.sja_link.proofs.Ledger.Judging.{StaysIn, filter_push}
+use Rattle.sja_journal.proofs.Ledger.Freeing.{free_push}
+use Rattle.sja_journal.proofs.Ledger.Judging.{StaysIn, filter_push}
 use Rattle.sja_bus.specs.declared.activity.Activity.{Activity}
 use Rattle.sja_bus.specs.declared.activity.Activity.TheVariants.{Between, Running, Off as IsOff, OffAndAsked}
-use Rattle.sja_link.specs.Links.{stops_in, stops_of}
-use Rattle.sja_link.specs.OutOfOrder.{HasOff, HasAskedOff}
+use Rattle.sja_journal.specs.Links.{stops_in, stops_of}
+use Rattle.sja_journal.specs.OutOfOrder.{HasOff, HasAskedOff}
 use Rattle.sja_bus.specs.Inside.Following.{is_on, IsActive}
 use Rattle.sja_link.proofs.Growing.Ordered.{acts_in}
 use Rattle.sja_bus.proofs.Journal.OnBus.{on_both}
-use Rattle.sja_link.proofs.Growing.AskingOff.{off_before, asked_before}
+use Rattle.sja_journal.proofs.Growing.AskingOff.{off_before, asked_before}
 
 -- an entry that is no stop
 pub stopped_same : (j : List Entry) (e : Entry) (n : ℕ) → stops_in e ≡ 0 → stops_of j ≡ n → stops_of (j ++ e ∷ []) ≡ n

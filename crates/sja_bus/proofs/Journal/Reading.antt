@@ -2,34 +2,34 @@
 use Rattle.std.proofs.Common.{◌≡◌, ℕ, suc, ◌+◌, ◌<◌, false, List, [], ◌∷◌, ◌++◌}
 use Rattle.std.proofs.Common.{refl, sym, ap, ◌∙◌, subst, append_assoc, arith}
 use Rattle.can_frame.specs.declared.filter.Filter.{Filter}
-use Rattle.can_node.specs.declared.config.Config.{Config}
-use Rattle.can_node.specs.declared.request.Request.{Request}
+use Rattle.can_node_rules.specs.declared.config.Config.{Config}
+use Rattle.can_node_rules.specs.declared.request.Request.{Request}
 use Rattle.can_node.specs.declared.node.Node.{Node}
 use Rattle.can_node.specs.Stands.{InReset}
-use Rattle.sja_link.specs.declared.up.Up.TheVariants.{Start, Send, Stop}
-use Rattle.sja_link.specs.declared.entry.Entry.{Entry}
-use Rattle.sja_link.specs.declared.entry.Entry.TheVariants.{Up as Item, Abort, Off}
-use Rattle.sja_link.specs.Places.{JournalPlace, past, place_of}
-use Rattle.sja_link.specs.Records.{told, record_of}
-use Rattle.sja_link.specs.Parts.{part, entry_at}
-use Rattle.sja_link.specs.Carried.{taken_of}
+use Rattle.sja_journal.specs.declared.up.Up.TheVariants.{Start, Send, Stop}
+use Rattle.sja_journal.specs.declared.entry.Entry.{Entry}
+use Rattle.sja_journal.specs.declared.entry.Entry.TheVariants.{Up as Item, Abort, Off}
+use Rattle.sja_journal.specs.Places.{JournalPlace, past, place_of}
+use Rattle.sja_journal.specs.Records.{told, record_of}
+use Rattle.sja_journal.specs.Parts.{part, entry_at}
+use Rattle.sja_journal.specs.Carried.{taken_of}
 use Rattle.lemmas.specs.Gathering.{total}
 use Rattle.sja_link.specs.World.{is_stop}
-use Rattle.sja_link.specs.Free.{IsFree, credit_in, bytes_in}
-use Rattle.sja_link.specs.Verdicts.{filter_of}
-use Rattle.sja_link.proofs.JournalEntries.Entering.{place_push, record_push, part_here, of_part_later}
+use Rattle.sja_journal.specs.Free.{IsFree, credit_in, bytes_in}
+use Rattle.sja_journal.specs.Verdicts.{filter_of}
+use Rattle.sja_journal.proofs.JournalEntries.Entering.{place_push, record_push, part_here, of_part_later}
 use Rattle.lemmas.proofs.Gathered.{total_push}
-use Rattle.sja_link.proofs.Ledger.Judging.{StaysIn, filter_push}
+use Rattle.sja_journal.proofs.Ledger.Judging.{StaysIn, filter_push}
 use Rattle.sja_bus.specs.declared.activity.Activity.{Activity}
 use Rattle.sja_bus.specs.declared.activity.Activity.TheVariants.{Between, Running, Off as IsOff, OffAndAsked}
-use Rattle.sja_link.specs.Links.{stops_in}
-use Rattle.sja_bus.specs.Inside.Seats.{Pays}
-use Rattle.sja_link.specs.OutOfOrder.{HasOff, HasAskedOff}
+use Rattle.sja_journal.specs.Links.{stops_in}
+use Rattle.sja_bus.specs.Inside.BusNodes.{Pays}
+use Rattle.sja_journal.specs.OutOfOrder.{HasOff, HasAskedOff}
 use Rattle.sja_bus.specs.Inside.Following.{open_in, is_on, IsActive, Reads}
 use Rattle.sja_link.specs.Orderly.{IsRunning, IsOrderly}
 use Rattle.sja_link.proofs.Growing.Ordered.{orderly_here, acts_in, quiet_orderly, stopless_with, runs_now, no_off_put}
 use Rattle.sja_bus.proofs.Journal.OnBus.{on_both}
-use Rattle.sja_link.proofs.Growing.AskingOff.{off_before, off_of_asked, none_off}
+use Rattle.sja_journal.proofs.Growing.AskingOff.{off_before, off_of_asked, none_off}
 use Rattle.sja_bus.proofs.Journal.Parted.{stopped_same, free_on, marks_in, no_stop, no_mark, stays_of}
 use Rattle.sja_bus.proofs.Journal.Parted.{off_same, begun_same, on_same, off_less, asked_less, active_same}
 

@@ -1,27 +1,28 @@
 -- A node follows its journal, with each thing that the bus does.
 use Rattle.std.proofs.Common.{◌≡◌, ◌≢◌, ℕ, true, false, List, [], ◌∷◌, ◌++◌, refl, sym, ap, ◌∙◌, subst, append-nil}
 use Rattle.std.specs.Prelude.{Ok}
-use Rattle.can_node.specs.declared.config.Config.{Config}
-use Rattle.can_node.specs.declared.request.Request.{Request}
-use Rattle.can_node.specs.declared.abort_outcome.AbortOutcome.{AbortOutcome}
-use Rattle.can_node.specs.declared.abort_outcome.AbortOutcome.TheVariants.{Unchanged, Marked, Dropped}
+use Rattle.can_node_rules.specs.declared.config.Config.{Config}
+use Rattle.can_node_rules.specs.declared.request.Request.{Request}
+use Rattle.can_node_rules.specs.declared.abort_outcome.AbortOutcome.{AbortOutcome}
+use Rattle.can_node_rules.specs.declared.abort_outcome.AbortOutcome.TheVariants.{Unchanged, Marked, Dropped}
 use Rattle.can_node.specs.declared.node.Node.{Node}
-use Rattle.can_node.specs.Record.{RecordEntry as Event}
-use Rattle.can_node.specs.Record.RecordEntry.{Start as Started, Stop as Stopped, Send as Asked, Abort as AbortedNow}
-use Rattle.can_node.specs.FinishedPieces.{Count, received}
+use Rattle.can_node_rules.specs.Record.{RecordEntry as Event}
+use Rattle.can_node_rules.specs.Record.RecordEntry.{Start as Started, Stop as Stopped, Send as Asked}
+use Rattle.can_node_rules.specs.Record.RecordEntry.{Abort as AbortedNow}
+use Rattle.can_node_rules.specs.FinishedPieces.{Count, received}
 use Rattle.can_node.specs.Stands.{StandsAt, Enters, Requests, Aborts}
-use Rattle.sja_link.specs.declared.up.Up.TheVariants.{Start, Credit, Send, Stop}
-use Rattle.sja_link.specs.declared.entry.Entry.{Entry}
-use Rattle.sja_link.specs.declared.entry.Entry.TheVariants.{Up as Item, Abort}
-use Rattle.sja_link.specs.Places.{place_of}
-use Rattle.sja_link.specs.Records.{told, record_of}
-use Rattle.sja_link.specs.Judged.{judged_after}
-use Rattle.sja_link.specs.Verdicts.{IsDue}
+use Rattle.sja_journal.specs.declared.up.Up.TheVariants.{Start, Credit, Send, Stop}
+use Rattle.sja_journal.specs.declared.entry.Entry.{Entry}
+use Rattle.sja_journal.specs.declared.entry.Entry.TheVariants.{Up as Item, Abort}
+use Rattle.sja_journal.specs.Places.{place_of}
+use Rattle.sja_journal.specs.Records.{told, record_of}
+use Rattle.sja_journal.specs.Judged.{judged_after}
+use Rattle.sja_journal.specs.Verdicts.{IsDue}
 use Rattle.lemmas.specs.Picking.Picks.{nothing}
-use Rattle.sja_link.proofs.JournalEntries.Entering.{record_push, record_counted}
-use Rattle.sja_link.proofs.Ledger.Judging.{StaysIn, HasBegun, verdicts_quiet, verdicts_start}
+use Rattle.sja_journal.proofs.JournalEntries.Entering.{record_push, record_counted}
+use Rattle.sja_journal.proofs.Ledger.Judging.{StaysIn, HasBegun, verdicts_quiet, verdicts_start}
 use Rattle.sja_bus.specs.Inside.Following.{Follows}
-use Rattle.sja_link.proofs.JournalEntries.Begun.{stands_begun}
+use Rattle.sja_journal.proofs.JournalEntries.Begun.{cut_begun}
 
 -- ---- an entry that the node was told of, or that it isn't told of
 
@@ -67,7 +68,7 @@ follows_start old new j config enters h =
       found = h.found;
       stands = subst P (sym (record_push j e)) (enters (record_of j) h.found h.stands);
       verdicts = verdicts_start j config (received h.found)
-          (subst Q (record_counted j) (stands_begun old (record_of j) h.found h.stands)) h.verdicts;
+          (subst Q (record_counted j) (cut_begun (record_of j) h.found h.stands.cut)) h.verdicts;
     }
 
 pub follows_stop : (old new : Node) (j : List Entry) → Enters old new Stopped → Follows old j →

@@ -1,23 +1,23 @@
 -- One bit of a node that sends, and of one that has read just what it has.
 use Rattle.std.proofs.Common.{◌≡◌, true, false, List, [], ◌∷◌, ◌++◌, map, refl, sym, ap, ◌∙◌, subst, append_assoc}
 use Rattle.std.proofs.lemmas.List.{map-append}
-use Rattle.can_bits.specs.declared.level.Level.{Level}
-use Rattle.can_bits.specs.declared.level.Level.TheVariants.{Recessive}
+use Rattle.can_levels.specs.declared.level.Level.{Level}
+use Rattle.can_levels.specs.declared.level.Level.TheVariants.{Recessive}
 use Rattle.can_node.specs.declared.node.Node.{Node}
 use Rattle.can_node.specs.declared.stage.Stage.{Stage}
-use Rattle.can_node.specs.Context.{is_held}
-use Rattle.can_node.specs.NextBit.{now_in, open_bits, rests_in}
+use Rattle.can_node_rules.specs.Context.{is_held}
+use Rattle.can_node_rules.specs.NextBit.{now_in, open_bits, rests_in}
 use Rattle.can_node.specs.Stands.{DrivesNext, ShowsRest, is_receiving, phase_of_stage}
 use Rattle.can_node.specs.Together.{ReadsBit, SendsBit, is_sending, kept_level}
 use Rattle.can_node.proofs.Machine.Shown.{phase_shown}
-use Rattle.can_node.proofs.Machine.Told.{drives_once}
+use Rattle.can_node_rules.proofs.OneCut.DrivenLevels.{drives_once}
 use Rattle.can_node.proofs.Machine.Together.{sends_in_frame}
-use Rattle.sja_link.specs.declared.entry.Entry.{Entry}
-use Rattle.sja_link.specs.declared.entry.Entry.TheVariants.{Bit}
-use Rattle.sja_link.specs.Records.{record_of}
-use Rattle.sja_bus.specs.declared.seat.Seat.{Seat}
-use Rattle.sja_bus.specs.declared.port_news.PortNews.TheVariants.{Nothing}
-use Rattle.sja_bus.specs.Inside.Seats.{IsReady}
+use Rattle.sja_journal.specs.declared.entry.Entry.{Entry}
+use Rattle.sja_journal.specs.declared.entry.Entry.TheVariants.{Bit}
+use Rattle.sja_journal.specs.Records.{record_of}
+use Rattle.sja_bus.specs.declared.bus_node.BusNode.{BusNode}
+use Rattle.sja_bus.specs.declared.pending_event.PendingEvent.TheVariants.{Nothing}
+use Rattle.sja_bus.specs.Inside.BusNodes.{IsReady}
 use Rattle.sja_bus.specs.Inside.Together.{after_reading, after_sending, read_bits}
 use Rattle.sja_bus.specs.Inside.Turning.{IsQuietBit}
 use Rattle.sja_bus.proofs.Journal.Quiet.{quiet_sound}
@@ -28,8 +28,8 @@ use Rattle.sja_bus.proofs.Journal.Quiet.{quiet_sound}
 pub drives_kept : (node : Node) → DrivesNext node (kept_level node)
 drives_kept node entries found h = h.next
 
--- a seat knows that level
-pub kept_is : (s : Seat) (node : Node) (x : Level) → IsReady s → node ≡ s.node → DrivesNext node x → x ≡ s.drives
+-- a bus node knows that level
+pub kept_is : (s : BusNode) (node : Node) (x : Level) → IsReady s → node ≡ s.node → DrivesNext node x → x ≡ s.drives
 kept_is s node x ready is drives =
     let cut = ready.sound.follows.stands.cut in
     let P : Node → Type 0 = λ n. DrivesNext n x in
@@ -43,14 +43,14 @@ works node sends entries found h =
     ap (λ (s : Stage). rests_in (phase_of_stage s) (is_held (now_in h.cut).held)) (sym (sends_in_frame node sends))
     ∙ ap (λ p. rests_in p (is_held (now_in h.cut).held)) (phase_shown node entries found h)
 
--- ---- one seat
+-- ---- one bus node
 
 grown : (f : Level → Entry) (j : List Entry) (xs : List Level) (x : Level) →
     j ++ map f (xs ++ x ∷ []) ≡ (j ++ map f xs) ++ f x ∷ []
 grown f j xs x = ap (λ l. j ++ l) (map-append f xs (x ∷ [])) ∙ sym (append_assoc j (map f xs) (f x ∷ []))
 
 -- the bit of the one that sends
-module _ (s : Seat) (mid new : Node) (next : Level) (xs : List Level) (x : Level) (bit : SendsBit mid x new) where
+module _ (s : BusNode) (mid new : Node) (next : Level) (xs : List Level) (x : Level) (bit : SendsBit mid x new) where
   pub sender_drives : DrivesNext mid x
   sender_drives = let P : Level → Type 0 = λ y. DrivesNext mid y in subst P bit.drives (drives_kept mid)
 
@@ -70,12 +70,12 @@ module _ (s : Seat) (mid new : Node) (next : Level) (xs : List Level) (x : Level
     sound = quiet_sound (after_sending mid x xs s) (after_sending new next (xs ++ x ∷ []) s) new x x
         (is_receiving mid) sender_drives bit.samples bit.shows refl
         (grown (λ y. Bit y y) s.journal.entries xs x) refl refl refl ready.sound;
-    seat = record { own = ready.seat.own; few = ready.seat.few; most = ready.seat.most };
+    bus_node = record { own = ready.bus_node.own; few = ready.bus_node.few; most = ready.bus_node.most };
     drives = drives;
   }
 
 -- the bit of one that reads
-module _ (s : Seat) (mid new : Node) (xs : List Level) (x : Level) (bit : ReadsBit mid x new) where
+module _ (s : BusNode) (mid new : Node) (xs : List Level) (x : Level) (bit : ReadsBit mid x new) where
   reader_drives : (node : Node) → kept_level node ≡ Recessive → DrivesNext node Recessive
   reader_drives node e = let P : Level → Type 0 = λ y. DrivesNext node y in subst P e (drives_kept node)
 
@@ -96,6 +96,6 @@ module _ (s : Seat) (mid new : Node) (xs : List Level) (x : Level) (bit : ReadsB
     sound = quiet_sound (after_reading mid xs s) (after_reading new (xs ++ x ∷ []) s) new Recessive x
         (is_receiving mid) (reader_drives mid bit.drives) bit.samples bit.shows refl
         (grown (λ y. Bit Recessive y) s.journal.entries xs x) refl refl refl ready.sound;
-    seat = record { own = ready.seat.own; few = ready.seat.few; most = ready.seat.most };
+    bus_node = record { own = ready.bus_node.own; few = ready.bus_node.few; most = ready.bus_node.most };
     drives = let P : Level → Type 0 = λ y. DrivesNext new y in subst P (bit.stays ∙ sym drives) (drives_kept new);
   }

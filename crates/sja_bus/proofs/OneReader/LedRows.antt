@@ -3,17 +3,17 @@ use Rattle.std.proofs.Common.{◌≡◌, ◌≢◌, ◌⊎◌, ℕ, suc, ◌<◌
 use Rattle.std.proofs.Common.{refl, sym, ap, ◌∙◌, subst, arith, inl, inr, append-nil}
 use Rattle.std.specs.Prelude.{slice_index_or}
 use Rattle.std.proofs.lemmas.List.{length-append, same_lists}
-use Rattle.can_bits.specs.declared.level.Level.{Level}
-use Rattle.can_bits.specs.declared.level.Level.TheVariants.{Recessive}
+use Rattle.can_levels.specs.declared.level.Level.{Level}
+use Rattle.can_levels.specs.declared.level.Level.TheVariants.{Recessive}
 use Rattle.can_node.specs.declared.node.Node.{Node}
 use Rattle.can_node.specs.Stands.{DrivesNext, ShowsRest}
 use Rattle.can_node.specs.Together.{ReadsBits, SendsBits, kept_level}
 use Rattle.can_node.specs.Together.SendsBits.{no_bit, one_more as one_bit_more}
 use Rattle.can_node.proofs.Machine.Following.{read_last, read_none, sent_last, sent_none}
-use Rattle.sja_wire.specs.Wire.{wired}
-use Rattle.sja_bus.specs.declared.seat.Seat.{Seat}
-use Rattle.sja_bus.specs.declared.port_news.PortNews.TheVariants.{Nothing}
-use Rattle.sja_bus.specs.Inside.Rows.{IsOf, AreReady, AreTold, EachSeat, driven_by}
+use Rattle.can_levels.specs.BusLevel.{wired}
+use Rattle.sja_bus.specs.declared.bus_node.BusNode.{BusNode}
+use Rattle.sja_bus.specs.declared.pending_event.PendingEvent.TheVariants.{Nothing}
+use Rattle.sja_bus.specs.Inside.Rows.{IsOf, AreReady, AreTold, EachBusNode, driven_by}
 use Rattle.sja_bus.specs.Inside.Together.{AreQuietRows, IsQuietRow, after_reading, after_sending}
 use Rattle.sja_bus.specs.Inside.Together.AreQuietRows.{no_row, one_more}
 use Rattle.sja_bus.specs.Inside.Turning.{IsQuietBit}
@@ -21,17 +21,17 @@ use Rattle.sja_bus.proofs.OneReader.Places.{Between, between, one_drives}
 use Rattle.sja_bus.proofs.OneReader.LedBits.{drives_kept, kept_is, reader_quiet, reader_ready, sender_drives}
 use Rattle.sja_bus.proofs.OneReader.LedBits.{sender_quiet, sender_ready, works}
 
--- ---- one seat
+-- ---- one bus node
 
--- a seat after these levels: its node sent them, or read them. The one in the lead sent them
-pub data HasGone (lead : ℕ) (xs : List Level) (m : ℕ) (old : Seat) : Seat → Type 0 where
+-- a bus node after these levels: its node sent them, or read them. The one in the lead sent them
+pub data HasGone (lead : ℕ) (xs : List Level) (m : ℕ) (old : BusNode) : BusNode → Type 0 where
   by_sending : (node : Node) (next : Level) → SendsBits old.node xs node → DrivesNext node next →
       HasGone lead xs m old (after_sending node next xs old)
   by_reading : (node : Node) → m ≢ lead → kept_level old.node ≡ Recessive → ReadsBits old.node xs node →
       HasGone lead xs m old (after_reading node xs old)
 
--- the seat before the last of these levels
-pub record GoesBack (lead : ℕ) (xs : List Level) (x : Level) (m : ℕ) (old mid new : Seat) : Type 0
+-- the bus node before the last of these levels
+pub record GoesBack (lead : ℕ) (xs : List Level) (x : Level) (m : ℕ) (old mid new : BusNode) : Type 0
   where
     pub gone : HasGone lead xs m old mid
     pub bit : IsQuietBit x mid new
@@ -40,9 +40,9 @@ pub record GoesBack (lead : ℕ) (xs : List Level) (x : Level) (m : ℕ) (old mi
     pub drives : (mid.drives ≡ x) ⊎ (mid.drives ≡ Recessive)
     pub leads : m ≡ lead → (mid.drives ≡ x) × ShowsRest mid.node false
 
-one_back : (lead : ℕ) (xs : List Level) (x : Level) (m : ℕ) (old new : Seat) → IsOf old m →
+one_back : (lead : ℕ) (xs : List Level) (x : Level) (m : ℕ) (old new : BusNode) → IsOf old m →
     old.untold ≡ Nothing → HasGone lead (xs ++ x ∷ []) m old new →
-    (mid : Seat) × GoesBack lead xs x m old mid new
+    (mid : BusNode) × GoesBack lead xs x m old mid new
 one_back lead xs x m old _ at none (by_sending node next bits drives) =
     let back = sent_last old.node (xs ++ x ∷ []) node xs x bits refl in (
       after_sending back.mid x xs old,
@@ -74,47 +74,47 @@ one_back lead xs x m old _ at none (by_reading node other recessive bits) =
     )
 
 -- after no level it is what it was
-one_still : (lead : ℕ) (m : ℕ) (old new : Seat) → IsOf old m → HasGone lead [] m old new →
+one_still : (lead : ℕ) (m : ℕ) (old new : BusNode) → IsOf old m → HasGone lead [] m old new →
     new ≡ old
 one_still lead m old _ at (by_sending node next bits drives) =
     let is = sent_none old.node [] node bits refl in let kept = kept_is old node next at.ready is drives in
-    ap (λ n. let t : Seat = record old {
+    ap (λ n. let t : BusNode = record old {
       node = n;
       drives = next;
       journal = record old.journal { entries = old.journal.entries ++ [] };
     } in t) is
-    ∙ ap (λ y. let t : Seat = record old {
+    ∙ ap (λ y. let t : BusNode = record old {
       drives = y;
       journal = record old.journal { entries = old.journal.entries ++ [] };
     } in t) kept
-    ∙ ap (λ l. let t : Seat = record old { journal = record old.journal { entries = l } } in t)
+    ∙ ap (λ l. let t : BusNode = record old { journal = record old.journal { entries = l } } in t)
     (append-nil old.journal.entries)
 one_still lead m old _ at (by_reading node other recessive bits) =
-    ap (λ n. let t : Seat = record old {
+    ap (λ n. let t : BusNode = record old {
       node = n;
       journal = record old.journal { entries = old.journal.entries ++ [] };
     } in t) (read_none old.node [] node bits refl)
-    ∙ ap (λ l. let t : Seat = record old { journal = record old.journal { entries = l } } in t)
+    ∙ ap (λ l. let t : BusNode = record old { journal = record old.journal { entries = l } } in t)
     (append-nil old.journal.entries)
 
--- ---- all seats
+-- ---- all bus nodes
 
-module _ (to_rest : Bool) (seats : List Seat) (lead : ℕ) (few : lead < length seats)
-    (ready : AreReady seats) (told : AreTold seats) where
-  abbrev pub HaveGone : List Level → List Seat → Type 0
-  HaveGone xs after = EachSeat (λ m old new. HasGone lead xs m old new) seats after
+module _ (to_rest : Bool) (bus_nodes : List BusNode) (lead : ℕ) (few : lead < length bus_nodes)
+    (ready : AreReady bus_nodes) (told : AreTold bus_nodes) where
+  abbrev pub HaveGone : List Level → List BusNode → Type 0
+  HaveGone xs after = EachBusNode (λ m old new. HasGone lead xs m old new) bus_nodes after
 
-  -- the seats before the last of these levels
-  all_back : (xs : List Level) (x : Level) (after : List Seat) → length after ≡ length seats →
-      HaveGone (xs ++ x ∷ []) after → Between (GoesBack lead xs x) seats after
+  -- the bus nodes before the last of these levels
+  all_back : (xs : List Level) (x : Level) (after : List BusNode) → length after ≡ length bus_nodes →
+      HaveGone (xs ++ x ∷ []) after → Between (GoesBack lead xs x) bus_nodes after
   all_back xs x after count gone =
-      between (GoesBack lead xs x) seats after count
-      (λ m s near. one_back lead xs x m (slice_index_or seats m s) (slice_index_or after m s)
+      between (GoesBack lead xs x) bus_nodes after count
+      (λ m s near. one_back lead xs x m (slice_index_or bus_nodes m s) (slice_index_or after m s)
       (ready m s near) (told m s near) (gone m s near))
 
   -- their last bit
-  last_row : (xs : List Level) (x : Level) (after : List Seat) → length after ≡ length seats →
-      (back : Between (GoesBack lead xs x) seats after) → AreReady back.items →
+  last_row : (xs : List Level) (x : Level) (after : List BusNode) → length after ≡ length bus_nodes →
+      (back : Between (GoesBack lead xs x) bus_nodes after) → AreReady back.items →
       IsQuietRow to_rest back.items after
   last_row xs x after count back rows =
       let n = back.count in
@@ -124,7 +124,7 @@ module _ (to_rest : Bool) (seats : List Seat) (lead : ℕ) (few : lead < length 
       record {
         count = count ∙ sym n;
         ready = λ k s near.
-            let within : k < length seats = omega (arith, near, count) in
+            let within : k < length bus_nodes = omega (arith, near, count) in
             (back.each k s within).ready (rows k s (omega (arith, within, n)));
         rooms = λ k s near. (back.each k s (omega (arith, near, n))).room;
         bits = λ k s near.
@@ -133,21 +133,21 @@ module _ (to_rest : Bool) (seats : List Seat) (lead : ℕ) (few : lead < length 
         works = λ yes. (lead, omega (arith, few, n), λ s. ((back.each lead s few).leads refl).1);
       }
 
-  -- all their bits, as many as a node sent, and the seats after them are ready
-  pub rows_gone : (node : Node) (xs : List Level) (new : Node) → SendsBits node xs new → (after : List Seat) →
-      length after ≡ length seats → HaveGone xs after →
-      AreQuietRows to_rest seats (length xs) after × AreReady after
+  -- all their bits, as many as a node sent, and the bus nodes after them are ready
+  pub rows_gone : (node : Node) (xs : List Level) (new : Node) → SendsBits node xs new → (after : List BusNode) →
+      length after ≡ length bus_nodes → HaveGone xs after →
+      AreQuietRows to_rest bus_nodes (length xs) after × AreReady after
   rows_gone node _ _ no_bit after count gone =
-      let e = same_lists seats after (sym count)
-      (λ m s near. sym (one_still lead m (slice_index_or seats m s) (slice_index_or after m s) (ready m s near)
+      let e = same_lists bus_nodes after (sym count)
+      (λ m s near. sym (one_still lead m (slice_index_or bus_nodes m s) (slice_index_or after m s) (ready m s near)
       (gone m s near))) in
-      let P : List Seat → Type 0 = λ l. AreQuietRows to_rest seats 0 l in
-      let Q : List Seat → Type 0 = λ l. AreReady l in
+      let P : List BusNode → Type 0 = λ l. AreQuietRows to_rest bus_nodes 0 l in
+      let Q : List BusNode → Type 0 = λ l. AreReady l in
       (subst P e no_row, subst Q e ready)
   rows_gone node _ _ (one_bit_more mid new xs x bits bit) after count gone =
       let back = all_back xs x after count gone in
       let before = rows_gone node xs mid bits back.items back.count (λ m s near. (back.each m s near).gone) in
       let row = last_row xs x after count back before.1 in
       let more : suc (length xs) ≡ length (xs ++ x ∷ []) = let n = length-append xs (x ∷ []) in omega (arith, n) in
-      let N : ℕ → Type 0 = λ n. AreQuietRows to_rest seats n after in
+      let N : ℕ → Type 0 = λ n. AreQuietRows to_rest bus_nodes n after in
       (subst N more (one_more back.items after (length xs) before.0 row), row.ready)

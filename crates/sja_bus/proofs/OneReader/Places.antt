@@ -1,10 +1,10 @@
--- A list made place by place between two others, and the level that all seats drive together where one drives it.
+-- A list made place by place between two others, and the level that all bus nodes drive together where one drives it.
 use Rattle.std.proofs.Common.{◌≡◌, ◌⊎◌, ℕ, zero, suc, ◌<◌, List, [], ◌∷◌, length, refl, ap, ◌∙◌, arith, inl, inr}
 use Rattle.std.specs.Prelude.{slice_index_or}
-use Rattle.can_bits.specs.declared.level.Level.{Level}
-use Rattle.can_bits.specs.declared.level.Level.TheVariants.{Dominant, Recessive}
-use Rattle.sja_wire.specs.Wire.{wired}
-use Rattle.sja_bus.specs.declared.seat.Seat.{Seat}
+use Rattle.can_levels.specs.declared.level.Level.{Level}
+use Rattle.can_levels.specs.declared.level.Level.TheVariants.{Dominant, Recessive}
+use Rattle.can_levels.specs.BusLevel.{wired}
+use Rattle.sja_bus.specs.declared.bus_node.BusNode.{BusNode}
 use Rattle.sja_bus.specs.Inside.Rows.{driven_by}
 
 -- ---- a list between two others
@@ -41,37 +41,37 @@ between {A = A} P (x ∷ xs) (y ∷ ys) count at =
 
 -- ---- the level
 
-all_recessive : (seats : List Seat) → ((m : ℕ) (s : Seat) → m < length seats →
-    (slice_index_or seats m s).drives ≡ Recessive) → wired (driven_by seats) ≡ Recessive
+all_recessive : (bus_nodes : List BusNode) → ((m : ℕ) (s : BusNode) → m < length bus_nodes →
+    (slice_index_or bus_nodes m s).drives ≡ Recessive) → wired (driven_by bus_nodes) ≡ Recessive
 all_recessive [] each = refl
-all_recessive (s ∷ seats) each =
-    later s.drives (driven_by seats) (each 0 s (omega arith)) ∙ all_recessive seats
+all_recessive (s ∷ bus_nodes) each =
+    later s.drives (driven_by bus_nodes) (each 0 s (omega arith)) ∙ all_recessive bus_nodes
     (λ m d few. each (suc m) d (omega (arith, few)))
   where
     later : (x : Level) (levels : List Level) → x ≡ Recessive → wired (x ∷ levels) ≡ wired levels
     later Dominant levels e = absurd cc
     later Recessive levels e = refl
 
-one_dominant : (seats : List Seat) (k : ℕ) → k < length seats →
-    ((s : Seat) → (slice_index_or seats k s).drives ≡ Dominant) → wired (driven_by seats) ≡ Dominant
+one_dominant : (bus_nodes : List BusNode) (k : ℕ) → k < length bus_nodes →
+    ((s : BusNode) → (slice_index_or bus_nodes k s).drives ≡ Dominant) → wired (driven_by bus_nodes) ≡ Dominant
 one_dominant [] k few here = absurd (omega (arith, few))
-one_dominant (s ∷ seats) zero few here = first s.drives (here s)
+one_dominant (s ∷ bus_nodes) zero few here = first s.drives (here s)
   where
-    first : (y : Level) → y ≡ Dominant → wired (y ∷ driven_by seats) ≡ Dominant
+    first : (y : Level) → y ≡ Dominant → wired (y ∷ driven_by bus_nodes) ≡ Dominant
     first Dominant e = refl
     first Recessive e = absurd cc
-one_dominant (s ∷ seats) (suc k) few here = later s.drives (one_dominant seats k (omega (arith, few)) here)
+one_dominant (s ∷ bus_nodes) (suc k) few here = later s.drives (one_dominant bus_nodes k (omega (arith, few)) here)
   where
-    later : (y : Level) → wired (driven_by seats) ≡ Dominant → wired (y ∷ driven_by seats) ≡ Dominant
+    later : (y : Level) → wired (driven_by bus_nodes) ≡ Dominant → wired (y ∷ driven_by bus_nodes) ≡ Dominant
     later Dominant rest = refl
     later Recessive rest = rest
 
 -- one drives this level, each other one this or recessive
-pub one_drives : (seats : List Seat) (k : ℕ) (x : Level) → k < length seats →
-    ((s : Seat) → (slice_index_or seats k s).drives ≡ x) →
-    ((m : ℕ) (s : Seat) → m < length seats →
-    ((slice_index_or seats m s).drives ≡ x) ⊎ ((slice_index_or seats m s).drives ≡ Recessive)) →
-    wired (driven_by seats) ≡ x
-one_drives seats k Dominant few here each = one_dominant seats k few here
-one_drives seats k Recessive few here each =
-    all_recessive seats (λ m s near. elim (each m s near) [ inl e ↦ e | inr e ↦ e ])
+pub one_drives : (bus_nodes : List BusNode) (k : ℕ) (x : Level) → k < length bus_nodes →
+    ((s : BusNode) → (slice_index_or bus_nodes k s).drives ≡ x) →
+    ((m : ℕ) (s : BusNode) → m < length bus_nodes →
+    ((slice_index_or bus_nodes m s).drives ≡ x) ⊎ ((slice_index_or bus_nodes m s).drives ≡ Recessive)) →
+    wired (driven_by bus_nodes) ≡ x
+one_drives bus_nodes k Dominant few here each = one_dominant bus_nodes k few here
+one_drives bus_nodes k Recessive few here each =
+    all_recessive bus_nodes (λ m s near. elim (each m s near) [ inl e ↦ e | inr e ↦ e ])

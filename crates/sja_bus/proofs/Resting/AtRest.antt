@@ -2,49 +2,50 @@
 use Rattle.std.proofs.Common.{◌≡◌, ℕ, zero, suc, Bool, true, false, None, List, [], ◌∷◌, ◌++◌}
 use Rattle.std.proofs.Common.{inl, inr, refl, sym, ap, ◌∙◌, subst, append_assoc, append-nil}
 use Rattle.std.specs.Prelude.{◌⊎◌, if◌then◌else◌, nat_lt}
-use Rattle.can_bits.specs.declared.level.Level.{Level}
-use Rattle.can_bits.specs.declared.level.Level.TheVariants.{Recessive}
+use Rattle.can_levels.specs.declared.level.Level.{Level}
+use Rattle.can_levels.specs.declared.level.Level.TheVariants.{Recessive}
 use Rattle.can_node.specs.declared.node.Node.{Node}
-use Rattle.can_node.specs.declared.phase.Phase.TheVariants.{Intermission, Suspension}
+use Rattle.can_node_rules.specs.declared.phase.Phase.TheVariants.{Intermission, Suspension}
 use Rattle.can_node.specs.declared.stage.Stage.{Stage}
 use Rattle.can_node.specs.declared.stage.Stage.TheVariants.{InReset as StageInReset, Integrating as StageIntegrating}
 use Rattle.can_node.specs.declared.stage.Stage.TheVariants.{BusIdle as StageBusIdle, InFrame as StageInFrame}
 use Rattle.can_node.specs.declared.stage.Stage.TheVariants.{LastEofBit as StageLastEofBit, InFlag as StageInFlag}
 use Rattle.can_node.specs.declared.stage.Stage.TheVariants.{InDelimiter as StageInDelimiter}
 use Rattle.can_node.specs.declared.stage.Stage.TheVariants.{InInterframeSpace as StageInInterframeSpace}
-use Rattle.can_node.specs.Bits.{Bit as Levels}
-use Rattle.can_node.specs.Context.{ContextValue, is_held}
-use Rattle.can_node.specs.Pieces.{Place}
-use Rattle.can_node.specs.Counting.{at_bit}
-use Rattle.can_node.specs.Events.{lost_in}
-use Rattle.can_node.specs.Effects.{is_in_progress}
-use Rattle.can_node.specs.Driving.{Drives}
-use Rattle.can_node.specs.NextBit.{now_in, open_bits, rests_in}
-use Rattle.can_node.specs.Inside.Standing.{context_of}
-use Rattle.can_node.specs.Inside.Stages.{At}
-use Rattle.can_node.specs.Stands.{DrivesNext, Samples, ShowsRest, ShowsSame, abort_of, nothing, is_receiving}
+use Rattle.can_node_rules.specs.Bits.{Bit as Levels}
+use Rattle.can_node_rules.specs.Context.{ContextValue, is_held}
+use Rattle.can_node_rules.specs.Pieces.{Place}
+use Rattle.can_node_rules.specs.Counting.{at_bit}
+use Rattle.can_node_rules.specs.Events.{lost_in}
+use Rattle.can_node_rules.specs.Effects.{is_in_progress}
+use Rattle.can_node_rules.specs.Driving.{Drives}
+use Rattle.can_node_rules.specs.NextBit.{now_in, open_bits, rests_in}
+use Rattle.can_node.specs.Standing.{context_of}
+use Rattle.can_node.specs.Stages.{At}
+use Rattle.can_node.specs.Stands.{DrivesNext, Samples, ShowsRest, ShowsSame, is_receiving}
+use Rattle.can_node_rules.specs.Outcomes.{abort_of, nothing}
 use Rattle.can_node.specs.Stands.{phase_of_stage}
 use Rattle.can_node.proofs.Machine.Ats.{at_is}
 use Rattle.can_node.proofs.Machine.Quiet.{IsQuiet, quietly}
 use Rattle.can_node.proofs.Machine.QuietOutside.{idle_quietly}
 use Rattle.can_node.proofs.Machine.Shown.{phase_shown}
-use Rattle.can_node.proofs.Machine.Told.{drives_once}
-use Rattle.sja_link.specs.declared.entry.Entry.{Entry}
-use Rattle.sja_link.specs.declared.entry.Entry.TheVariants.{Bit}
-use Rattle.sja_link.specs.Records.{record_of}
+use Rattle.can_node_rules.proofs.OneCut.DrivenLevels.{drives_once}
+use Rattle.sja_journal.specs.declared.entry.Entry.{Entry}
+use Rattle.sja_journal.specs.declared.entry.Entry.TheVariants.{Bit}
+use Rattle.sja_journal.specs.Records.{record_of}
 use Rattle.sja_regs.specs.declared.orders.Orders.{Orders}
 use Rattle.sja_regs.specs.declared.bus_turn.BusTurn.{BusTurn}
-use Rattle.sja_bus.specs.declared.seat.Seat.{Seat}
-use Rattle.sja_link.specs.Aborting.{changes, IsApplied}
-use Rattle.sja_wire.specs.Opens.{Opens}
-use Rattle.sja_link.specs.BitEntries.{MayHaveAbort}
+use Rattle.sja_bus.specs.declared.bus_node.BusNode.{BusNode}
+use Rattle.sja_journal.specs.Aborting.{changes, IsApplied}
+use Rattle.sja_bus_rules.specs.Opens.{Opens}
+use Rattle.sja_journal.specs.BitEntries.{MayHaveAbort}
 use Rattle.sja_bus.specs.Stretches.{recessive_bits}
 use Rattle.sja_bus.specs.Inside.Following.{Follows}
-use Rattle.sja_bus.specs.Inside.Seats.{IsSound, IsReady}
+use Rattle.sja_bus.specs.Inside.BusNodes.{IsSound, IsReady}
 use Rattle.sja_bus.specs.Inside.Turning.{IsQuietBit, OpensUntold, Turns}
 use Rattle.sja_bus.specs.Inside.Idling.{IsResting, after_bits}
-use Rattle.sja_link.proofs.Growing.Items.{items_none}
-use Rattle.can_node.proofs.OneCut.SameCuts.{same_now}
+use Rattle.sja_journal.proofs.Growing.Items.{items_none}
+use Rattle.can_node_rules.proofs.OneCut.SameCuts.{same_now}
 use Rattle.sja_bus.proofs.Journal.Quiet.{quiet_sound}
 use Rattle.sja_bus.proofs.AtPorts.TurnsTold.{quiet_turns, drops_none}
 use Rattle.can_node.proofs.Machine.Requests.{nothing_held}
@@ -130,7 +131,7 @@ resting_bit node j rests drives h =
 same_shown : (node : Node) → ShowsSame node node
 same_shown node = record { counters = refl; phase = refl; receiving = refl; holds = refl }
 
--- ---- a seat
+-- ---- a bus node
 
 snoc : (n : ℕ) → recessive_bits n ++ Bit Recessive Recessive ∷ [] ≡ recessive_bits (suc n)
 snoc zero = refl
@@ -140,36 +141,36 @@ pub one_more : (n : ℕ) (j : List Entry) → (j ++ recessive_bits n) ++ Bit Rec
     ++ recessive_bits (suc n)
 one_more n j = append_assoc j (recessive_bits n) (Bit Recessive Recessive ∷ []) ∙ ap (λ l. j ++ l) (snoc n)
 
-pub after_none : (s : Seat) → after_bits 0 s ≡ s
-after_none s = ap (λ l. let x : Seat = record s { journal = record s.journal { entries = l } } in x)
+pub after_none : (s : BusNode) → after_bits 0 s ≡ s
+after_none s = ap (λ l. let x : BusNode = record s { journal = record s.journal { entries = l } } in x)
     (append-nil s.journal.entries)
 
 -- it drives recessive
-drives_recessive : (s : Seat) → IsReady s → IsResting s → DrivesNext s.node Recessive
+drives_recessive : (s : BusNode) → IsReady s → IsResting s → DrivesNext s.node Recessive
 drives_recessive s ready rest = let P : Level → Type 0 = λ x. DrivesNext s.node x in subst P rest.drives ready.drives
 
-samples_recessive : (s : Seat) → IsReady s → IsResting s →
+samples_recessive : (s : BusNode) → IsReady s → IsResting s →
     Samples s.node s.node Recessive (nothing (is_receiving s.node))
 samples_recessive s ready rest = resting_bit s.node s.journal.entries rest.rests
     (drives_recessive s ready rest) ready.sound.follows
 
-sound_after : (n : ℕ) (s : Seat) → IsReady s → IsResting s → IsSound (after_bits n s)
-sound_after zero s ready rest = let P : Seat → Type 0 = λ x. IsSound x in subst P (sym (after_none s)) ready.sound
+sound_after : (n : ℕ) (s : BusNode) → IsReady s → IsResting s → IsSound (after_bits n s)
+sound_after zero s ready rest = let P : BusNode → Type 0 = λ x. IsSound x in subst P (sym (after_none s)) ready.sound
 sound_after (suc n) s ready rest =
     quiet_sound (after_bits n s) (after_bits (suc n) s) s.node Recessive Recessive (is_receiving s.node)
     (drives_recessive s ready rest)
     (samples_recessive s ready rest) (same_shown s.node) refl (sym (one_more n s.journal.entries)) refl refl refl
     (sound_after n s ready rest)
 
-pub ready_after : (n : ℕ) (s : Seat) → IsReady s → IsResting s → IsReady (after_bits n s)
+pub ready_after : (n : ℕ) (s : BusNode) → IsReady s → IsResting s → IsReady (after_bits n s)
 ready_after n s ready rest = record {
   sound = sound_after n s ready rest;
-  seat = record { own = ready.seat.own; few = ready.seat.few; most = ready.seat.most };
+  bus_node = record { own = ready.bus_node.own; few = ready.bus_node.few; most = ready.bus_node.most };
   drives = ready.drives;
 }
 
 -- each bit is one in which nothing happens, and that its port is passed over in
-pub quiet_after : (n : ℕ) (s : Seat) → IsReady s → IsResting s →
+pub quiet_after : (n : ℕ) (s : BusNode) → IsReady s → IsResting s →
     IsQuietBit Recessive (after_bits n s) (after_bits (suc n) s)
 quiet_after n s ready rest = record {
   untold = rest.none;
@@ -180,7 +181,7 @@ quiet_after n s ready rest = record {
       ∙ ap (λ x. (s.journal.entries ++ recessive_bits n) ++ Bit x Recessive ∷ []) (sym rest.drives);
 }
 
-pub turns_after : (was_told : BusTurn → Type 0) (was_kept : Type 0) (n : ℕ) (s : Seat) → was_kept →
+pub turns_after : (was_told : BusTurn → Type 0) (was_kept : Type 0) (n : ℕ) (s : BusNode) → was_kept →
     IsReady s → IsResting s →
     Turns was_told was_kept Recessive (after_bits n s) (after_bits (suc n) s)
 turns_after was_told was_kept n s kept ready rest =
@@ -191,7 +192,7 @@ turns_after was_told was_kept n s kept ready rest =
 abbrev no_abort : (j : List Entry) → MayHaveAbort j j
 no_abort j = record { changed = false; whole = sym (append-nil j) }
 
-pub opens_after : (has_orders : Orders → Type 0) (n : ℕ) (s : Seat) (o : Orders) → has_orders o →
+pub opens_after : (has_orders : Orders → Type 0) (n : ℕ) (s : BusNode) (o : Orders) → has_orders o →
     IsReady s → IsResting s →
     Opens has_orders (after_bits n s).journal.entries (after_bits n s).journal.entries
 opens_after has_orders n s o has ready rest =
@@ -205,7 +206,7 @@ opens_after has_orders n s o has ready rest =
       applied = λ yes. applied_at_rest s.node j rest.rests (sound_after n s ready rest).follows;
     }
 
-pub untold_none : (s : Seat) → OpensUntold s s
+pub untold_none : (s : BusNode) → OpensUntold s s
 untold_none s = record {
   taken = s.journal.entries;
   items = items_none s.journal.entries;

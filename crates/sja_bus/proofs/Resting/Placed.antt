@@ -2,20 +2,20 @@
 use Rattle.std.proofs.Common.{◌≡◌, ℕ, ◌<◌, List, [], length, sym, subst}
 use Rattle.std.specs.Prelude.{Option, slice_index_or}
 use Rattle.can_node.specs.declared.node.Node.{Node}
-use Rattle.can_node.specs.declared.node_place.NodePlace.{NodePlace}
-use Rattle.can_node.specs.Context.{ContextValue}
-use Rattle.can_node.specs.Pieces.{Place}
-use Rattle.can_node.specs.Record.{RecordEntry as Event, bits_in}
-use Rattle.can_node.specs.FinishedPieces.{FinishedPiece}
-use Rattle.can_node.specs.Cut.{IsCut}
-use Rattle.can_node.specs.Effects.{along}
+use Rattle.can_node_rules.specs.declared.node_place.NodePlace.{NodePlace}
+use Rattle.can_node_rules.specs.Context.{ContextValue}
+use Rattle.can_node_rules.specs.Pieces.{Place}
+use Rattle.can_node_rules.specs.Record.{RecordEntry as Event, bits_in}
+use Rattle.can_node_rules.specs.FinishedPieces.{FinishedPiece}
+use Rattle.can_node_rules.specs.Cut.{IsCut}
+use Rattle.can_node_rules.specs.Effects.{along}
 use Rattle.can_node.specs.NextPlace.{PlaceAt, PlaceIn, ShowsPlace}
-use Rattle.can_node.proofs.OneCut.CutOnce.{whole_once}
-use Rattle.sja_link.specs.declared.entry.Entry.{Entry}
-use Rattle.sja_link.specs.Records.{record_of}
-use Rattle.sja_bus.specs.declared.seat.Seat.{Seat}
-use Rattle.sja_wire.specs.Wire.{journal_at}
-use Rattle.sja_bus.specs.Placing.{HasPlace}
+use Rattle.can_node_rules.proofs.OneCut.CutOnce.{whole_once}
+use Rattle.sja_journal.specs.declared.entry.Entry.{Entry}
+use Rattle.sja_journal.specs.Records.{record_of}
+use Rattle.sja_bus.specs.declared.bus_node.BusNode.{BusNode}
+use Rattle.sja_bus_rules.specs.Wire.{journal_at}
+use Rattle.sja_bus.specs.BusPlaces.{HasPlace}
 use Rattle.sja_bus.specs.Inside.Following.{Follows}
 use Rattle.sja_bus.specs.Inside.Rows.{AreReady, journals_of}
 use Rattle.sja_bus.proofs.AllNodes.Running.{journal_is}
@@ -39,11 +39,12 @@ place_here node j shown h shows =
     }
 
 -- of a node of several
-pub place_among : (seats : List Seat) (seat : Seat) (shown : Option NodePlace) (k : ℕ) → AreReady seats →
-    k < length seats → seat ≡ slice_index_or seats k seat → ShowsPlace seat.node shown →
-    HasPlace (record_of (journal_at (journals_of seats) k)) shown
-place_among seats seat shown k ready few is shows =
-    let here = slice_index_or seats k seat in
-    subst (λ (j : List Entry). HasPlace (record_of j) shown) (sym (journal_is seats k seat few))
-    (place_here here.node here.journal.entries shown (ready k seat few).ready.sound.follows
-    (subst (λ (s : Seat). ShowsPlace s.node shown) is shows))
+pub place_among : (bus_nodes : List BusNode) (bus_node : BusNode) (shown : Option NodePlace) (k : ℕ) →
+    AreReady bus_nodes →
+    k < length bus_nodes → bus_node ≡ slice_index_or bus_nodes k bus_node → ShowsPlace bus_node.node shown →
+    HasPlace (record_of (journal_at (journals_of bus_nodes) k)) shown
+place_among bus_nodes bus_node shown k ready few is shows =
+    let here = slice_index_or bus_nodes k bus_node in
+    subst (λ (j : List Entry). HasPlace (record_of j) shown) (sym (journal_is bus_nodes k bus_node few))
+    (place_here here.node here.journal.entries shown (ready k bus_node few).ready.sound.follows
+    (subst (λ (s : BusNode). ShowsPlace s.node shown) is shows))

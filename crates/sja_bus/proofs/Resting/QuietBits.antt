@@ -3,24 +3,24 @@ use Rattle.std.proofs.Common.{◌≡◌, ℕ, zero, suc, ◌+◌, ◌<◌, Bool,
 use Rattle.std.proofs.Common.{sym, ap, ◌∙◌, subst, append-nil, arith}
 use Rattle.std.specs.Prelude.{◌≢◌, slice_index_or, Result, Ok, Err, OnOk, IfOk}
 use Rattle.std.proofs.lemmas.List.{length-map, length-append, ext_get_or}
-use Rattle.can_bits.specs.declared.level.Level.TheVariants.{Recessive}
-use Rattle.sja_link.specs.declared.entry.Entry.{Entry}
-use Rattle.sja_link.specs.declared.entry.Entry.TheVariants.{Bit}
-use Rattle.sja_link.specs.Lists.{Lists}
-use Rattle.sja_link.specs.Accounts.{Account, account}
-use Rattle.sja_link.specs.declared.up.Up.{Up}
+use Rattle.can_levels.specs.declared.level.Level.TheVariants.{Recessive}
+use Rattle.sja_journal.specs.declared.entry.Entry.{Entry}
+use Rattle.sja_journal.specs.declared.entry.Entry.TheVariants.{Bit}
+use Rattle.sja_journal.specs.Lists.{Lists}
+use Rattle.sja_journal.specs.Accounts.{Account, account}
+use Rattle.sja_journal.specs.declared.up.Up.{Up}
 use Rattle.lemmas.proofs.Gathered.{total_push}
 use Rattle.sja_regs.specs.declared.orders.Orders.{Orders}
 use Rattle.sja_regs.specs.declared.bus_turn.BusTurn.{BusTurn}
-use Rattle.sja_script.specs.declared.strike.Strike.{Strike}
-use Rattle.sja_wire.specs.Lawful.{IsBusRun}
-use Rattle.sja_wire.specs.Wire.{journal_at}
-use Rattle.sja_link.specs.Links.{Kept, stops_in, stops_of}
-use Rattle.sja_wire.specs.declared.bus_fault.BusFault.{BusFault}
-use Rattle.sja_link.specs.BitEntries.{MayHaveItems, entries_of_items}
-use Rattle.sja_wire.specs.Telling.{IsUntold}
-use Rattle.sja_wire.specs.Buses.{EachJournal, EachUntold, KeepsAll, AllDry, untold_at, IsNodeBit}
-use Rattle.sja_wire.specs.Buses.{IsBit}
+use Rattle.sja_steps.specs.declared.strike.Strike.{Strike}
+use Rattle.sja_bus_rules.specs.Lawful.{IsBusRun}
+use Rattle.sja_bus_rules.specs.Wire.{journal_at}
+use Rattle.sja_journal.specs.Links.{Kept, stops_in, stops_of}
+use Rattle.sja_journal.specs.declared.bus_fault.BusFault.{BusFault}
+use Rattle.sja_journal.specs.BitEntries.{MayHaveItems, entries_of_items}
+use Rattle.sja_bus_rules.specs.Telling.{IsUntold}
+use Rattle.sja_bus_rules.specs.Buses.{EachJournal, EachUntold, KeepsAll, AllDry, untold_at, IsNodeBit}
+use Rattle.sja_bus_rules.specs.Buses.{IsBit}
 use Rattle.sja_bus.specs.Stretches.{recessive_bits, with_recessive, IsStretch}
 use Rattle.sja_link.proofs.Growing.Moving.{account_quiet}
 use Rattle.sja_bus.proofs.Resting.AtRest.{one_more}

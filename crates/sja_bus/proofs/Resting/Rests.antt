@@ -3,31 +3,32 @@ use Rattle.std.proofs.Common.{◌≡◌, ◌≢◌, ℕ, ◌<◌, Bool, true, fa
 use Rattle.std.proofs.Common.{ap, ◌∙◌, subst, arith, inl, inr, length}
 use Rattle.std.specs.Prelude.{if◌then◌else◌, slice_index_or}
 use Rattle.std.proofs.lemmas.List.{get_or_default as or_same}
-use Rattle.can_bits.specs.declared.level.Level.{Level}
-use Rattle.can_bits.specs.declared.level.Level.TheVariants.{Recessive}
-use Rattle.can_node.specs.declared.request.Request.{Request}
-use Rattle.can_node.specs.Bits.{Bit as Levels}
+use Rattle.can_levels.specs.declared.level.Level.{Level}
+use Rattle.can_levels.specs.declared.level.Level.TheVariants.{Recessive}
+use Rattle.can_node_rules.specs.declared.request.Request.{Request}
+use Rattle.can_node_rules.specs.Bits.{Bit as Levels}
 use Rattle.can_node.specs.declared.node.Node.{Node}
-use Rattle.can_node.specs.Context.{ContextValue, is_held}
-use Rattle.can_node.specs.Pieces.{Place}
-use Rattle.can_node.specs.Pieces.Place.{AtReset, AtIntegration, AtIdle, AfterSof, AtLastEofBit, AtFlag, AtDelimiter}
-use Rattle.can_node.specs.Pieces.Place.{AtInterframeSpace}
-use Rattle.can_node.specs.Record.{RecordEntry as Event, bits_in}
-use Rattle.can_node.specs.FinishedPieces.{FinishedPiece}
-use Rattle.can_node.specs.Cut.{IsCut}
-use Rattle.can_node.specs.Effects.{along}
-use Rattle.can_node.specs.Driving.{phase_at, IdleDrives, Drives}
-use Rattle.can_node.specs.NextBit.{now_in, open_bits, rests_in, is_at_rest}
+use Rattle.can_node_rules.specs.Context.{ContextValue, is_held}
+use Rattle.can_node_rules.specs.Pieces.{Place}
+use Rattle.can_node_rules.specs.Pieces.Place.{AtReset, AtIntegration, AtIdle, AfterSof, AtLastEofBit, AtFlag}
+use Rattle.can_node_rules.specs.Pieces.Place.{AtDelimiter}
+use Rattle.can_node_rules.specs.Pieces.Place.{AtInterframeSpace}
+use Rattle.can_node_rules.specs.Record.{RecordEntry as Event, bits_in}
+use Rattle.can_node_rules.specs.FinishedPieces.{FinishedPiece}
+use Rattle.can_node_rules.specs.Cut.{IsCut}
+use Rattle.can_node_rules.specs.Effects.{along}
+use Rattle.can_node_rules.specs.Driving.{phase_at, IdleDrives, Drives}
+use Rattle.can_node_rules.specs.NextBit.{now_in, open_bits, rests_in, is_at_rest}
 use Rattle.can_node.specs.Stands.{DrivesNext, ShowsRest}
-use Rattle.can_node.proofs.OneCut.CutOnce.{whole_once}
-use Rattle.sja_link.specs.declared.entry.Entry.{Entry}
-use Rattle.sja_link.specs.Records.{record_of}
-use Rattle.sja_bus.specs.declared.port_news.PortNews.{PortNews}
-use Rattle.sja_bus.specs.declared.port_news.PortNews.TheVariants.{Nothing, Changed, Dropped}
-use Rattle.sja_bus.specs.declared.seat.Seat.{Seat}
-use Rattle.sja_wire.specs.Wire.{journal_at}
-use Rattle.sja_wire.specs.Buses.{BusValue, untold_at}
-use Rattle.sja_bus.specs.Resting.{RestsAs}
+use Rattle.can_node_rules.proofs.OneCut.CutOnce.{whole_once}
+use Rattle.sja_journal.specs.declared.entry.Entry.{Entry}
+use Rattle.sja_journal.specs.Records.{record_of}
+use Rattle.sja_bus.specs.declared.pending_event.PendingEvent.{PendingEvent}
+use Rattle.sja_bus.specs.declared.pending_event.PendingEvent.TheVariants.{Nothing, Changed, Dropped}
+use Rattle.sja_bus.specs.declared.bus_node.BusNode.{BusNode}
+use Rattle.sja_bus_rules.specs.Wire.{journal_at}
+use Rattle.sja_bus_rules.specs.Buses.{BusValue, untold_at}
+use Rattle.sja_bus.specs.BusRest.{RestsAs}
 use Rattle.sja_bus.specs.Stretches.{EndsStretch}
 use Rattle.sja_bus.specs.Stretches.EndsStretch.{untold, busy}
 use Rattle.sja_bus.specs.Inside.Following.{Follows}
@@ -55,16 +56,16 @@ rests_here node j b h shows =
     }
 
 -- of a node of several
-pub rests_at : (seats : List Seat) (b : Bool) (k : ℕ) → AreReady seats → k < length (journals_of seats) →
-    ((s : Seat) → ShowsRest (slice_index_or seats k s).node b) →
-    RestsAs (record_of (journal_at (journals_of seats) k)) b
+pub rests_at : (bus_nodes : List BusNode) (b : Bool) (k : ℕ) → AreReady bus_nodes → k < length (journals_of bus_nodes) →
+    ((s : BusNode) → ShowsRest (slice_index_or bus_nodes k s).node b) →
+    RestsAs (record_of (journal_at (journals_of bus_nodes) k)) b
 rests_at [] b k ready few shows = absurd (omega arith)
-rests_at (s ∷ seats) b k ready few shows =
-    let all = s ∷ seats in let c = count_is all in
+rests_at (s ∷ bus_nodes) b k ready few shows =
+    let all = s ∷ bus_nodes in let c = count_is all in
     let near : k < length all = omega (arith, few, c) in
-    let seat = slice_index_or all k s in
+    let bus_node = slice_index_or all k s in
     let P : List Entry → Type 0 = λ j. RestsAs (record_of j) b in
-    subst P (sym (journal_is all k s near)) (rests_here seat.node seat.journal.entries b
+    subst P (sym (journal_is all k s near)) (rests_here bus_node.node bus_node.journal.entries b
     (ready k s near).ready.sound.follows (shows s))
 
 -- ---- a node at rest drives recessive
@@ -97,17 +98,17 @@ rest_recessive node j x h rests drives =
 
 -- ---- one of several isn't, or something is untold of it
 
-has_untold : (n : PortNews) → n ≢ Nothing → is_untold n ≡ true
+has_untold : (n : PendingEvent) → n ≢ Nothing → is_untold n ≡ true
 has_untold Nothing some = absurd (some refl)
 has_untold Changed some = refl
 has_untold Dropped some = refl
 
-pub ends_awake : (count n : ℕ) (now : BusValue) (seats : List Seat) → now.journals ≡ journals_of seats →
-    now.untold ≡ untold_of seats →
-    AreReady seats → IsOneAwake seats → EndsStretch count n now
+pub ends_awake : (count n : ℕ) (now : BusValue) (bus_nodes : List BusNode) → now.journals ≡ journals_of bus_nodes →
+    now.untold ≡ untold_of bus_nodes →
+    AreReady bus_nodes → IsOneAwake bus_nodes → EndsStretch count n now
 ends_awake count n now [] journals told ready one = let few = one.1 in absurd (omega (arith, few))
-ends_awake count n now (s ∷ seats) journals told ready one =
-    let all = s ∷ seats in let k = one.0 in let c = count_is all in let few : k < length all = one.1 in
+ends_awake count n now (s ∷ bus_nodes) journals told ready one =
+    let all = s ∷ bus_nodes in let k = one.0 in let c = count_is all in let few : k < length all = one.1 in
     let size = ap (λ (l : List (List Entry)). length l) journals in
     let near : k < length (journals_of all) = omega (arith, few, c) in
     let here : k < length now.journals = omega (arith, near, size) in
@@ -116,6 +117,6 @@ ends_awake count n now (s ∷ seats) journals told ready one =
           ∙ has_untold (slice_index_or all k s).untold some)
       | inr shows ↦ busy k here (subst (λ (j : List (List Entry)). RestsAs
           (record_of (journal_at j k)) false) (sym journals)
-          (rests_at all false k ready near (λ e. subst (λ (x : Seat). ShowsRest x.node false)
+          (rests_at all false k ready near (λ e. subst (λ (x : BusNode). ShowsRest x.node false)
           (or_same all k s e few) shows)))
     ]

@@ -1,8 +1,8 @@
 -- Bits in none of which a script strikes one of eight nodes, and more of them.
 use Rattle.std.proofs.Common.{◌≡◌, ℕ, ◌+◌, ◌-◌, ◌<◌, List, inl, inr, arith, subst}
 use Rattle.std.proofs.lemmas.Bool.{cases_lt}
-use Rattle.sja_script.specs.declared.strike.Strike.{Strike}
-use Rattle.sja_script.specs.Striking.{Strikes}
+use Rattle.sja_steps.specs.declared.strike.Strike.{Strike}
+use Rattle.sja_steps.specs.Striking.{Strikes}
 
 -- one bit in which none is struck
 pub none_now : (script : List Strike) (from run : ℕ) →

@@ -1,18 +1,18 @@
 -- Every cut of a journal's record.
 use Rattle.std.proofs.Common.{◌≡◌, List, ap, ◌∙◌, subst}
 use Rattle.can_node.specs.declared.node.Node.{Node}
-use Rattle.can_node.specs.declared.counters.Counters.{Counters}
-use Rattle.can_node.specs.Context.{ContextValue}
-use Rattle.can_node.specs.FinishedPieces.{FinishedPiece, received}
-use Rattle.can_node.specs.NextBit.{now_in}
+use Rattle.can_node_rules.specs.declared.counters.Counters.{Counters}
+use Rattle.can_node_rules.specs.Context.{ContextValue}
+use Rattle.can_node_rules.specs.FinishedPieces.{FinishedPiece, received}
+use Rattle.can_node_rules.specs.NextBit.{now_in}
 use Rattle.can_node.specs.Stands.{ShowsCounters}
-use Rattle.can_node.proofs.OneCut.CutOnce.{cut_once}
-use Rattle.sja_link.specs.declared.entry.Entry.{Entry}
-use Rattle.sja_link.specs.Records.{record_of}
-use Rattle.sja_link.specs.Verdicts.{HasVerdicts, IsLawful}
+use Rattle.can_node_rules.proofs.OneCut.CutOnce.{cut_once}
+use Rattle.sja_journal.specs.declared.entry.Entry.{Entry}
+use Rattle.sja_journal.specs.Records.{record_of}
+use Rattle.sja_journal.specs.Verdicts.{HasVerdicts, IsLawful}
 use Rattle.sja_bus.specs.Inside.Following.{Follows}
-use Rattle.sja_wire.specs.Lawful.{CountersAre}
-use Rattle.can_node.proofs.OneCut.SameCuts.{same_now}
+use Rattle.sja_bus_rules.specs.Lawful.{CountersAre}
+use Rattle.can_node_rules.proofs.OneCut.SameCuts.{same_now}
 
 pub lawful_of : (node : Node) (j : List Entry) → Follows node j → IsLawful j
 lawful_of node j h = record {

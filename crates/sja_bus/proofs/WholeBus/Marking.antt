@@ -10,8 +10,8 @@ use Rattle.std.proofs.lemmas.List.{length-take-le, length-drop}
 use Rattle.std.proofs.lemmas.Grind.{get_or-set_at}
 use Rattle.std.proofs.lemmas.List.Elements.{at_from_Contains, Contains-push, Contains-push_cases, Contains-append_left}
 use Rattle.std.proofs.lemmas.List.Elements.{Contains-append_cases, Contains-append_right}
-use Rattle.sja_script.specs.declared.strike.Strike.{Strike}
-use Rattle.sja_script.specs.Striking.{Hits, Strikes}
+use Rattle.sja_steps.specs.declared.strike.Strike.{Strike}
+use Rattle.sja_steps.specs.Striking.{Hits, Strikes}
 use Rattle.sja_bus.specs.declared.struck_nodes.StruckNodes.{StruckNodes}
 use Rattle.sja_bus.specs.Inside.StrikesByBit.{IsAmong, IsMarked, IsMarkedWith, IsTableOf, IsUnhit}
 use Rattle.sja_bus.specs.Inside.StrikesByBit.{IsHeld, IsUnstruck, Table, nobody}
@@ -23,10 +23,6 @@ use Rattle.lemmas.proofs.Numbers.{earlier_or_last}
 -- the first so many times of a strike
 abbrev pub front : Strike → ℕ → Strike
 front s times = record s { times = times }
-
--- no time hits nothing
-pub no_time : (s : Strike) (bit node : ℕ) → Hits (front s 0) bit node → ⊥
-no_time s bit node h = let few = h.few in omega arith
 
 -- a time more hits one bit more
 pub one_more : (s : Strike) (times bit node : ℕ) → Hits (front s times) bit node → Hits (front s (times + 1)) bit node
@@ -57,18 +53,6 @@ same_place : (bits : List StruckNodes) (at bit : ℕ) (d e : StruckNodes) → bi
     slice_index_or bits at d ≡ slice_index_or bits bit e
 same_place bits at bit d e same within =
     get_or_default bits at d e within ∙ ap (λ n. slice_index_or bits n e) (sym same)
-
-pub marked_none : (s : Strike) (bits : List StruckNodes) → IsMarked (front s 0) bits bits
-marked_none s bits bit node d few below = (
-  λ h. inl h,
-  λ h. elim h
-      [ inl was ↦ was | inr hits ↦ absurd (no_time s bit node hits) ],
-)
-
--- a strike of no node below 8 marks nothing
-pub marked_far : (s : Strike) (bits : List StruckNodes) → 8 ≤ s.node → IsMarked s bits bits
-marked_far s bits far bit node d few below =
-    (λ h. inl h, λ h. elim h [ inl was ↦ was | inr hits ↦ absurd (let same = hits.of_node in omega arith) ])
 
 pub marked_more : (s : Strike) (times at : ℕ) (start old : List StruckNodes) (nodes d : StruckNodes) →
     s.bit + times * s.every ≡ at → at < length old → length old ≡ length start → IsMarked (front s times) start old →
@@ -128,13 +112,6 @@ marked_all s times start old long all was bit node d few below = (
 pub none_there : (s : Strike) → Contains {X = Strike} [] s → ⊥
 none_there s h = let few : (at_from_Contains {X = Strike} [] s h).0 < 0 =
     (at_from_Contains {X = Strike} [] s h).1 in omega arith
-
--- a script of no strike strikes nobody
-pub table_of_none : (bits : ℕ) → IsTableOf [] (record { bits = bits; nodes = [] })
-table_of_none bits bit node few below = (
-  λ h. absurd (not_among node (subst (λ x. IsAmong node x) (get_or_past [] bit nobody (omega arith)) h)),
-  λ h. absurd (none_there h.strike h.in_script),
-)
 
 -- one strike more
 pub struck_push : (script : List Strike) (s : Strike) (bit node : ℕ) →

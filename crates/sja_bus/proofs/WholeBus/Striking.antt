@@ -2,13 +2,13 @@
 use Rattle.std.proofs.Common.{◌≡◌, ◌↔◌, ◌<◌, ◌≤◌, ℕ, List, [], ◌∷◌, ◌++◌, inl, inr, sym, subst, arith}
 use Rattle.std.specs.Prelude.{Option, Result, Ok, Err, OnOk, OnErr}
 use Rattle.std.proofs.lemmas.List.Elements.{Contains-push_cases, Contains-append_left}
-use Rattle.sja_link.specs.declared.entry.Entry.{Entry}
-use Rattle.sja_script.specs.declared.strike.Strike.{Strike}
-use Rattle.sja_script.specs.Striking.{Hits, Strikes}
-use Rattle.sja_wire.specs.declared.bus_fault.BusFault.{BusFault}
-use Rattle.sja_wire.specs.Reasons.{room_for}
-use Rattle.sja_wire.specs.Wire.{IsWired}
-use Rattle.sja_bus.specs.declared.seat.Seat.{Seat}
+use Rattle.sja_journal.specs.declared.entry.Entry.{Entry}
+use Rattle.sja_steps.specs.declared.strike.Strike.{Strike}
+use Rattle.sja_steps.specs.Striking.{Hits, Strikes}
+use Rattle.sja_journal.specs.declared.bus_fault.BusFault.{BusFault}
+use Rattle.sja_bus_rules.specs.Reasons.{room_for}
+use Rattle.sja_bus_rules.specs.Wire.{IsWired}
+use Rattle.sja_bus.specs.declared.bus_node.BusNode.{BusNode}
 use Rattle.sja_bus.specs.Inside.StrikesByBit.{Scripted}
 use Rattle.sja_bus.specs.Inside.Refusing.{HaveRoom}
 use Rattle.sja_bus.specs.Inside.Rows.{IsBus, journals_of}
@@ -46,32 +46,32 @@ wired_before script s run journals later was = record {
 }
 
 -- and so it is a bus
-pub bus_before : (script : List Strike) (s : Strike) (run : ℕ) (seats : List Seat) → run ≤ s.bit →
-    IsBus script run seats → IsBus (script ++ s ∷ []) run seats
-bus_before script s run seats later was = record {
+pub bus_before : (script : List Strike) (s : Strike) (run : ℕ) (bus_nodes : List BusNode) → run ≤ s.bit →
+    IsBus script run bus_nodes → IsBus (script ++ s ∷ []) run bus_nodes
+bus_before script s run bus_nodes later was = record {
   ready = was.ready;
   calm = was.calm;
-  wired = wired_before script s run (journals_of seats) later was.wired;
+  wired = wired_before script s run (journals_of bus_nodes) later was.wired;
 }
 
 -- the bus is whole, whether the strike was taken or not
 pub whole_after : {A X : Type 0} (struck now : Scripted) (starts : ℕ) (steps : List ℕ) (run left : ℕ)
-    (fault : Option BusFault) (seats : List Seat) (room : ℕ) (s : Strike) (r : Result A X) → run ≤ s.bit →
+    (fault : Option BusFault) (bus_nodes : List BusNode) (room : ℕ) (s : Strike) (r : Result A X) → run ≤ s.bit →
     OnOk r (now.script ≡ struck.script ++ s ∷ []) → OnOk r (now.bits ≡ struck.bits) → OnOk r (now.from ≤ run) →
-    OnErr r (now ≡ struck) → IsWhole struck starts steps run left fault seats room →
-    IsWhole now starts steps run left fault seats room
-whole_after struck now starts steps run left fault seats room s (Ok done) later is same on kept was =
-    let B : List Strike → Type 0 = λ l. IsBus l run seats in
-    let R : ℕ → Type 0 = λ n. HaveRoom (room_for n steps) seats in
+    OnErr r (now ≡ struck) → IsWhole struck starts steps run left fault bus_nodes room →
+    IsWhole now starts steps run left fault bus_nodes room
+whole_after struck now starts steps run left fault bus_nodes room s (Ok done) later is same on kept was =
+    let B : List Strike → Type 0 = λ l. IsBus l run bus_nodes in
+    let R : ℕ → Type 0 = λ n. HaveRoom (room_for n steps) bus_nodes in
     let bits = was.bits in let most = was.most in record {
       few = was.few;
       bits = omega (arith, bits, same);
       most = omega (arith, most, same);
       asked = on;
-      bus = λ none. subst B (sym is) (bus_before struck.script s run seats later (was.bus none));
+      bus = λ none. subst B (sym is) (bus_before struck.script s run bus_nodes later (was.bus none));
       begun = was.begun;
       logs = was.logs;
       rooms = subst R (sym same) was.rooms;
     }
-whole_after struck now starts steps run left fault seats room s (Err e) later is same on kept was =
-    let W : Scripted → Type 0 = λ x. IsWhole x starts steps run left fault seats room in subst W (sym kept) was
+whole_after struck now starts steps run left fault bus_nodes room s (Err e) later is same on kept was =
+    let W : Scripted → Type 0 = λ x. IsWhole x starts steps run left fault bus_nodes room in subst W (sym kept) was

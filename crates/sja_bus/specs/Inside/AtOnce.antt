@@ -1,7 +1,7 @@
 -- Bits of a bus that are run at once.
 use Rattle.std.specs.Prelude.{◌≡◌, ◌≢◌, ◌+◌, ◌≤◌, ℕ, None, length}
 use Rattle.sja_bus.specs.declared.board.Board.{Ghosts as Ports}
-use Rattle.sja_wire.specs.Buses.{BusValue, AllTold}
+use Rattle.sja_bus_rules.specs.Buses.{BusValue, AllTold}
 use Rattle.sja_bus.specs.Stretches.{IsStretch}
 
 -- so many bits of a bus with these ports, at most this count, which went well. Where there are none the bus is as it

@@ -2,20 +2,20 @@
 use Rattle.std.specs.Prelude.{◌≡◌, ◌+◌, ℕ, suc, Bool, true, false, Some, List, [], ◌∷◌, ◌++◌}
 use Rattle.can_node.specs.declared.node.Node.{Node}
 use Rattle.can_node.specs.Stands.{StandsAt, InReset}
-use Rattle.sja_link.specs.NodeWords.{NodeEntry, NodeStarted, NodeStopped, NodeTook, NodeAsked}
-use Rattle.sja_link.specs.NodeWords.{NodeAborted, NodeWentOff, FinishedPiece, received}
-use Rattle.sja_link.specs.declared.entry.Entry.{Entry}
-use Rattle.sja_link.specs.Places.{place_of}
-use Rattle.sja_link.specs.Parts.{part}
-use Rattle.sja_link.specs.Records.{record_of}
-use Rattle.sja_link.specs.Free.{IsFree}
+use Rattle.sja_journal.specs.NodeWords.{NodeEntry, NodeStarted, NodeStopped, NodeTook, NodeAsked}
+use Rattle.sja_journal.specs.NodeWords.{NodeAborted, NodeWentOff, FinishedPiece, received}
+use Rattle.sja_journal.specs.declared.entry.Entry.{Entry}
+use Rattle.sja_journal.specs.Places.{place_of}
+use Rattle.sja_journal.specs.Parts.{part}
+use Rattle.sja_journal.specs.Records.{record_of}
+use Rattle.sja_journal.specs.Free.{IsFree}
 use Rattle.lemmas.specs.Gathering.{total}
-use Rattle.sja_link.specs.Carried.{taken_of}
+use Rattle.sja_journal.specs.Carried.{taken_of}
 use Rattle.sja_link.specs.World.{is_stop}
-use Rattle.sja_link.specs.Verdicts.{filter_of, HasVerdicts}
-use Rattle.sja_link.specs.Links.{stops_of}
-use Rattle.sja_link.specs.Inside.Entries.{off_left}
-use Rattle.sja_link.specs.OutOfOrder.{HasOff, HasAskedOff}
+use Rattle.sja_journal.specs.Verdicts.{filter_of, HasVerdicts}
+use Rattle.sja_journal.specs.Links.{stops_of}
+use Rattle.sja_journal.specs.Entries.{off_left}
+use Rattle.sja_journal.specs.OutOfOrder.{HasOff, HasAskedOff}
 use Rattle.sja_link.specs.Orderly.{AreOrderly}
 use Rattle.sja_bus.specs.declared.activity.Activity.{Activity}
 use Rattle.sja_bus.specs.declared.activity.Activity.TheVariants.{Between, Running, Off, OffAndAsked}

@@ -5,25 +5,26 @@ use Rattle.sja_link.specs.declared.bus_end.BusEnd.{Ghosts as Ends}
 use Rattle.can_node.specs.Stands.{ShowsRest}
 use Rattle.sja_regs.specs.declared.bus_turn.BusTurn.{BusTurn}
 use Rattle.sja_regs.specs.declared.orders.Orders.{Orders}
-use Rattle.sja_script.specs.declared.strike.Strike.{Strike}
-use Rattle.sja_script.specs.Striking.{Strikes}
+use Rattle.sja_steps.specs.declared.strike.Strike.{Strike}
+use Rattle.sja_steps.specs.Striking.{Strikes}
 use Rattle.sja_bus.specs.declared.board.Board.{Ghosts as Ports}
 use Rattle.sja_bus.specs.declared.broken_bit.BrokenBit.{BrokenBit}
-use Rattle.sja_link.specs.Written.{Room}
-use Rattle.sja_wire.specs.declared.bus_fault.BusFault.{BusFault}
-use Rattle.sja_bus.specs.declared.seat.Seat.{Seat}
+use Rattle.sja_journal.specs.Written.{Room}
+use Rattle.sja_journal.specs.declared.bus_fault.BusFault.{BusFault}
+use Rattle.sja_bus.specs.declared.bus_node.BusNode.{BusNode}
 use Rattle.sja_bus.specs.declared.struck_nodes.StruckNodes.{StruckNodes}
-use Rattle.sja_wire.specs.Buses.{BusValue}
-use Rattle.sja_link.specs.Links.{AreEnds, HaveLinks}
-use Rattle.sja_wire.specs.Reasons.{room_for}
+use Rattle.sja_bus_rules.specs.Buses.{BusValue}
+use Rattle.sja_journal.specs.Links.{AreEnds, HaveLinks}
+use Rattle.sja_bus_rules.specs.Reasons.{room_for}
 use Rattle.sja_bus.specs.Moment.{Moment, Keeps, OneBit}
 use Rattle.sja_bus.specs.Several.{AreBits, BreaksOff}
 use Rattle.sja_bus.specs.UntilTold.{IsLastTurn, WorksUntold}
 use Rattle.sja_bus.specs.Inside.Refusing.{AreFree, HaveRoom}
 use Rattle.sja_bus.specs.Inside.Turning.{IsIdleBit, is_untold}
-use Rattle.sja_bus.specs.Inside.Rows.{AreBegun, AreTold, EachSeat, IsBus, SeatHasBits, journals_of, seen_by, untold_of}
-use Rattle.sja_bus.specs.declared.port_news.PortNews.TheVariants.{Nothing}
-use Rattle.can_bits.specs.declared.level.Level.{Level}
+use Rattle.sja_bus.specs.Inside.Rows.{AreBegun, AreTold, EachBusNode, IsBus, BusNodeHasBits, journals_of, seen_by}
+use Rattle.sja_bus.specs.Inside.Rows.{untold_of}
+use Rattle.sja_bus.specs.declared.pending_event.PendingEvent.TheVariants.{Nothing}
+use Rattle.can_levels.specs.declared.level.Level.{Level}
 
 -- each of so many ports has orders, and they want no abort
 abbrev pub NoneAborts : (ℕ → Orders → Type 0) → ℕ → Type 0
@@ -34,56 +35,57 @@ abbrev pub SomeAborts : (ℕ → Orders → Type 0) → ℕ → Type 0
 SomeAborts orders_are nodes = (node : ℕ) × (o : Orders) × (node < nodes) × orders_are node o × (o.abort ≡ true)
 
 -- some port is to be told something
-abbrev pub SomeUntold : List Seat → Type 0
-SomeUntold seats = (k : ℕ) × (k < length seats) × ((s : Seat) → is_untold (slice_index_or seats k s).untold ≡ true)
+abbrev pub SomeUntold : List BusNode → Type 0
+SomeUntold bus_nodes = (k : ℕ) × (k < length bus_nodes) × ((s : BusNode) →
+    is_untold (slice_index_or bus_nodes k s).untold ≡ true)
 
 -- the port of one of these nodes was told the turn of the last bit in its journal
-pub record SomeTold (was_told : ℕ → BusTurn → Type 0) (seats : List Seat) : Type 0 where
+pub record SomeTold (was_told : ℕ → BusTurn → Type 0) (bus_nodes : List BusNode) : Type 0 where
   pub node : ℕ
   pub turn : BusTurn
-  pub few : node < length seats
+  pub few : node < length bus_nodes
   pub told : was_told node turn
-  pub last : (s : Seat) → IsLastTurn (slice_index_or seats node s).journal.entries turn
+  pub last : (s : BusNode) → IsLastTurn (slice_index_or bus_nodes node s).journal.entries turn
 
 -- from this node on all ports are told all
-abbrev pub AreToldFrom : ℕ → List Seat → Type 0
-AreToldFrom first seats =
-    (k : ℕ) (s : Seat) → first ≤ k → k < length seats → (slice_index_or seats k s).untold ≡ Nothing
+abbrev pub AreToldFrom : ℕ → List BusNode → Type 0
+AreToldFrom first bus_nodes =
+    (k : ℕ) (s : BusNode) → first ≤ k → k < length bus_nodes → (slice_index_or bus_nodes k s).untold ≡ Nothing
 
 -- a node had a bit, at this level, that brought nothing
-abbrev pub SeatIdle : StruckNodes → Level → ℕ → Seat → Seat → Type 0
-SeatIdle struck level m old new = IsIdleBit (seen_by struck level m) old new
+abbrev pub BusNodeIdle : StruckNodes → Level → ℕ → BusNode → BusNode → Type 0
+BusNodeIdle struck level m old new = IsIdleBit (seen_by struck level m) old new
 
 -- and each from this one on
-abbrev pub AreIdleFrom : ℕ → StruckNodes → Level → List Seat → List Seat → Type 0
-AreIdleFrom first struck level seats after = (k : ℕ) (s : Seat) → first ≤ k → k < length seats →
-    SeatIdle struck level k (slice_index_or seats k s) (slice_index_or after k s)
+abbrev pub AreIdleFrom : ℕ → StruckNodes → Level → List BusNode → List BusNode → Type 0
+AreIdleFrom first struck level bus_nodes after = (k : ℕ) (s : BusNode) → first ≤ k → k < length bus_nodes →
+    BusNodeIdle struck level k (slice_index_or bus_nodes k s) (slice_index_or after k s)
 
 -- no port was told anything of a bit of these nodes: the ports are as they were, and each journal has bits alone more,
 -- and room for one entry less than it had
-pub record TellsNone {B : Type 0} (seats after : List Seat) (was now : B) : Type 0 where
+pub record TellsNone {B : Type 0} (bus_nodes after : List BusNode) (was now : B) : Type 0 where
   pub still : now ≡ was
-  pub bits : EachSeat SeatHasBits seats after
-  pub free : (n : ℕ) → AreFree (suc n) seats → AreFree n after
+  pub bits : EachBusNode BusNodeHasBits bus_nodes after
+  pub free : (n : ℕ) → AreFree (suc n) bus_nodes → AreFree n after
 
 -- each of these nodes is at rest
-abbrev pub AllAtRest : List Seat → Type 0
-AllAtRest seats = (k : ℕ) (s : Seat) → k < length seats → ShowsRest (slice_index_or seats k s).node true
+abbrev pub AllAtRest : List BusNode → Type 0
+AllAtRest bus_nodes = (k : ℕ) (s : BusNode) → k < length bus_nodes → ShowsRest (slice_index_or bus_nodes k s).node true
 
 -- some journal has no room for more than so many further entries
-abbrev pub SomeFull : ℕ → List Seat → Type 0
-SomeFull n seats = (k : ℕ) × (k < length seats) × ((s : Seat) →
-    (slice_index_or seats k s).journal.room.all - length (slice_index_or seats k s).journal.entries ≤ n)
+abbrev pub SomeFull : ℕ → List BusNode → Type 0
+SomeFull n bus_nodes = (k : ℕ) × (k < length bus_nodes) × ((s : BusNode) →
+    (slice_index_or bus_nodes k s).journal.room.all - length (slice_index_or bus_nodes k s).journal.entries ≤ n)
 
--- the ports of these seats want no abort, are told all, and have the facts of a port
-pub record MayRunOn {B : Type 0} (b : Ports B) (board : B) (seats : List Seat) : Type 0 where
-  pub orders : NoneAborts (b.orders_are board) (length seats)
-  pub told : AreTold seats
-  pub facts : (k : ℕ) → k < length seats → b.facts board k
+-- the ports of these bus nodes want no abort, are told all, and have the facts of a port
+pub record MayRunOn {B : Type 0} (b : Ports B) (board : B) (bus_nodes : List BusNode) : Type 0 where
+  pub orders : NoneAborts (b.orders_are board) (length bus_nodes)
+  pub told : AreTold bus_nodes
+  pub facts : (k : ℕ) → k < length bus_nodes → b.facts board k
 
--- what a contract sees of a bus with these seats and without a fault
-abbrev pub bus_of : List Strike → ℕ → List ℕ → ℕ → ℕ → List Seat → BusValue
-bus_of script starts steps run left seats =
+-- what a contract sees of a bus with these bus nodes and without a fault
+abbrev pub bus_of : List Strike → ℕ → List ℕ → ℕ → ℕ → List BusNode → BusValue
+bus_of script starts steps run left bus_nodes =
     record {
       script = script;
       starts = starts;
@@ -91,14 +93,14 @@ bus_of script starts steps run left seats =
       run = run;
       left = left;
       fault = None;
-      journals = journals_of seats;
-      untold = untold_of seats;
+      journals = journals_of bus_nodes;
+      untold = untold_of bus_nodes;
     }
 
 -- the same with its links and its ports
-abbrev pub moment_of : {E B : Type 0} → List Strike → ℕ → List ℕ → ℕ → ℕ → List Seat → List E → B → Moment E B
-moment_of script starts steps run left seats links board =
-    record { bus = bus_of script starts steps run left seats; links = links; board = board }
+abbrev pub moment_of : {E B : Type 0} → List Strike → ℕ → List ℕ → ℕ → ℕ → List BusNode → List E → B → Moment E B
+moment_of script starts steps run left bus_nodes links board =
+    record { bus = bus_of script starts steps run left bus_nodes; links = links; board = board }
 
 -- a bit of whatever number, of which it isn't asked what was taken before it
 abbrev pub AnyBit : {E B : Type 0} → Ends E → Ports B → ℕ → Moment E B → Moment E B → Type 0
@@ -106,14 +108,14 @@ AnyBit e b n = OneBit e b
 
 -- why none of so many bits is run from this one on: none was asked for; or a journal is full; or the script strikes one
 -- of eight nodes in this bit; or each node is at rest, and it was asked that some work
-abbrev pub RowsRunNone : Bool → List Strike → ℕ → ℕ → List Seat → Type 0
-RowsRunNone to_rest script from most seats = (most ≡ 0) ⊎ SomeFull 0 seats
-    ⊎ ((node : ℕ) × (node < 8) × Strikes script from node) ⊎ ((to_rest ≡ true) × AllAtRest seats)
+abbrev pub RowsRunNone : Bool → List Strike → ℕ → ℕ → List BusNode → Type 0
+RowsRunNone to_rest script from most bus_nodes = (most ≡ 0) ⊎ SomeFull 0 bus_nodes
+    ⊎ ((node : ℕ) × (node < 8) × Strikes script from node) ⊎ ((to_rest ≡ true) × AllAtRest bus_nodes)
 
 -- each journal had room for n of so many, and why no more were run: what stands against the next one, or a port was
 -- told in the last one; and where none was run, what stood against the first
 pub record RowsEnd (was_told : ℕ → BusTurn → Type 0) (to_rest : Bool) (script : List Strike) (from most : ℕ)
-    (was now : List Seat) (n : ℕ) : Type 0 where
+    (was now : List BusNode) (n : ℕ) : Type 0 where
   pub free : AreFree n was
   pub none : n ≡ 0 → RowsRunNone to_rest script from most was
   pub why : RowsRunNone to_rest script (from + n) (most - n) now ⊎ SomeTold was_told now
@@ -122,7 +124,7 @@ pub record RowsEnd (was_told : ℕ → BusTurn → Type 0) (to_rest : Bool) (scr
 -- bits are left, where these are enough; and the bus after them: each journal has the room that it had, no activation
 -- began beyond the links, and in none of the bits the script strikes one of eight nodes
 pub record RowsRun {E B : Type 0} (e : Ends E) (b : Ports B) (to_rest : Bool) (script : List Strike) (from most : ℕ)
-    (was now : List Seat) (links after : List E) (board told : B) (n : ℕ) : Type 0 where
+    (was now : List BusNode) (links after : List E) (board told : B) (n : ℕ) : Type 0 where
   pub bus : IsBus script (from + n) now
   pub begun : (starts : ℕ) → AreBegun starts was → AreBegun starts now
   pub rooms : (room : ℕ → Room) → HaveRoom room was → HaveRoom room now
@@ -133,7 +135,8 @@ pub record RowsRun {E B : Type 0} (e : Ends E) (b : Ports B) (to_rest : Bool) (s
       (moment_of script starts steps (from + n) (left - n) now after told)
 
 -- fewer than so many, and then one that broke off: so for every bus that counts just the bits before it
-abbrev pub RowsStop : {E B : Type 0} → Ends E → Ports B → Bool → List Strike → ℕ → ℕ → List Seat → List Seat → List E →
+abbrev pub RowsStop : {E B : Type 0} → Ends E → Ports B → Bool → List Strike → ℕ → ℕ → List BusNode → List BusNode →
+    List E →
     List E → B → B → BrokenBit → Type 0
 RowsStop e b to_rest script from most was now links after board told f =
     (starts : ℕ) (steps : List ℕ) (left : ℕ) (bus : BusValue) → AreBegun starts was → HaveLinks e.links starts links →

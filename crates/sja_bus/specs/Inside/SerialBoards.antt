@@ -4,14 +4,14 @@ use Rattle.std.specs.Prelude.{Option, Some, None, is_some, List, [], ◌∷◌, 
 use Rattle.std.proofs.Common.{ap, sym, subst, inl, inr, ◌∙◌, arith}
 use Rattle.std.proofs.lemmas.Bool.{and_parts, not-true, or_parts, or_right}
 use Rattle.std.proofs.lemmas.List.{get_or_default as or_same}
-use Rattle.can_node.specs.declared.outcome.Outcome.{Outcome}
+use Rattle.can_node_rules.specs.declared.outcome.Outcome.{Outcome}
 use Rattle.sja_regs.specs.declared.bus_turn.BusTurn.{BusTurn}
 use Rattle.sja_regs.specs.declared.orders.Orders.{Orders}
 use Rattle.sja_regs.specs.declared.registers.Registers.{Registers}
 use Rattle.sja_regs.specs.declared.interrupts.Interrupts.{Interrupts}
 use Rattle.sja_regs.specs.Facts.{RegisterFacts}
 use Rattle.sja_regs.specs.Interrupting.{no_interrupt, pending_after}
-use Rattle.sja_regs.specs.Registers.{is_raw}
+use Rattle.sja_regs.specs.Registers.{by_bytes}
 use Rattle.sja_regs.specs.Turns.{is_live, is_sent, ends, goes_off, causes, after_turn}
 use Rattle.sja_bus.specs.Boards.{HasFacts, HasOrders, WasKept, WasTold}
 
@@ -71,7 +71,7 @@ turn_keeps p turn h =
           ap (λ n. n || p.tbs) (not-true (ended || off) stands.0) ∙ h.abort stands.1;
       set = λ e. h.set (or_parts off p.mode.rm e).1;
       set_first = h.set_first;
-      never = never_told off (is_raw p) (pending_after p.pending p.enabled (causes p turn)) h.never;
+      never = never_told off (by_bytes p) (pending_after p.pending p.enabled (causes p turn)) h.never;
       acr = h.acr;
       amr = h.amr;
       buffer = h.buffer;

@@ -1,8 +1,8 @@
 -- Which nodes are struck in each bit of a run (this project's own rule).
 use Rattle.std.specs.Prelude.{◌≡◌, ◌^◌, ◌⊎◌, ◌↔◌, ◌<◌, ◌≤◌, ℕ, List, length, slice_index_or}
 use Rattle.std.specs.Int.{bit_at}
-use Rattle.sja_script.specs.declared.strike.Strike.{Strike}
-use Rattle.sja_script.specs.Striking.{Hits, Strikes}
+use Rattle.sja_steps.specs.declared.strike.Strike.{Strike}
+use Rattle.sja_steps.specs.Striking.{Hits, Strikes}
 use Rattle.sja_bus.specs.declared.struck_nodes.StruckNodes.{StruckNodes}
 
 -- the node is among these

@@ -1,37 +1,38 @@
 -- What the port of a controller is still to be told, and what it is told.
 use Rattle.std.specs.Prelude.{◌≡◌, ◌≢◌, ◌⊎◌, ◌+◌, ◌<◌, ◌&&◌, not, Bool, true, false, None, List, [], ◌∷◌, ◌++◌, length}
-use Rattle.can_bits.specs.declared.level.Level.{Level}
-use Rattle.can_node.specs.declared.bit_events.BitEvents.{BitEvents}
-use Rattle.can_node.specs.Context.{is_held}
-use Rattle.can_node.specs.NextBit.{now_in}
-use Rattle.can_node.specs.Stands.{StandsAt, ShowsPhase, Samples, ShowsSame, nothing, is_receiving}
-use Rattle.sja_link.specs.NodeWords.{NodeEntry, FinishedPiece, IsCut}
-use Rattle.sja_link.specs.declared.entry.Entry.{Entry}
-use Rattle.sja_link.specs.declared.entry.Entry.TheVariants.{Bit}
-use Rattle.sja_link.specs.Records.{record_of}
+use Rattle.can_levels.specs.declared.level.Level.{Level}
+use Rattle.can_node_rules.specs.declared.bit_events.BitEvents.{BitEvents}
+use Rattle.can_node_rules.specs.Context.{is_held}
+use Rattle.can_node_rules.specs.NextBit.{now_in}
+use Rattle.can_node.specs.Stands.{StandsAt, ShowsPhase, Samples, ShowsSame, is_receiving}
+use Rattle.can_node_rules.specs.Outcomes.{nothing}
+use Rattle.sja_journal.specs.NodeWords.{NodeEntry, FinishedPiece, IsCut}
+use Rattle.sja_journal.specs.declared.entry.Entry.{Entry}
+use Rattle.sja_journal.specs.declared.entry.Entry.TheVariants.{Bit}
+use Rattle.sja_journal.specs.Records.{record_of}
 use Rattle.sja_regs.specs.declared.bus_turn.BusTurn.{BusTurn}
 use Rattle.sja_bus.specs.declared.bit_outcome.BitOutcome.{BitOutcome}
-use Rattle.sja_bus.specs.declared.port_news.PortNews.{PortNews}
-use Rattle.sja_bus.specs.declared.port_news.PortNews.TheVariants.{Nothing, Changed, Dropped}
-use Rattle.sja_bus.specs.declared.seat.Seat.{Seat}
-use Rattle.sja_link.specs.BitEntries.{MayHaveItems, MayHaveAbort, MayHaveVerdict, HasBit}
-use Rattle.sja_wire.specs.Telling.{IsTurn, SaysAlone, is_overrun}
+use Rattle.sja_bus.specs.declared.pending_event.PendingEvent.{PendingEvent}
+use Rattle.sja_bus.specs.declared.pending_event.PendingEvent.TheVariants.{Nothing, Changed, Dropped}
+use Rattle.sja_bus.specs.declared.bus_node.BusNode.{BusNode}
+use Rattle.sja_journal.specs.BitEntries.{MayHaveItems, MayHaveAbort, MayHaveVerdict, HasBit}
+use Rattle.sja_bus_rules.specs.Telling.{IsTurn, SaysAlone, is_overrun}
 use Rattle.sja_bus.specs.Inside.Following.{open_in}
 use Rattle.sja_bus.specs.UntilTold.{TellsNothing}
 
 -- whether something is to be told, and whether it is that a request was dropped
-abbrev pub is_untold : PortNews → Bool
+abbrev pub is_untold : PendingEvent → Bool
 is_untold Nothing = false
 is_untold Changed = true
 is_untold Dropped = true
 
-abbrev pub is_dropped : PortNews → Bool
+abbrev pub is_dropped : PendingEvent → Bool
 is_dropped Nothing = false
 is_dropped Changed = false
 is_dropped Dropped = true
 
 -- nothing was taken, or something that is to be told
-abbrev pub TakesUntold : Seat → Seat → Type 0
+abbrev pub TakesUntold : BusNode → BusNode → Type 0
 TakesUntold old new =
     ((new.untold ≡ old.untold) × (new.journal.entries ≡ old.journal.entries))
     ⊎ ((new.untold ≡ Changed) × (length old.journal.entries < length new.journal.entries))
@@ -42,13 +43,13 @@ Drops changed j dropped = (found : List FinishedPiece) (cut : IsCut (record_of j
     dropped ≡ (changed && not (is_held (now_in cut).held))
 
 -- an abort is to be told where it changed the node, and that the request was dropped where none is left
-pub record AbortsUntold (old new : Seat) : Type 0 where
+pub record AbortsUntold (old new : BusNode) : Type 0 where
   pub aborts : MayHaveAbort old.journal.entries new.journal.entries
   pub still : new.untold ≡ Nothing → (old.untold ≡ Nothing) × (new.journal.entries ≡ old.journal.entries)
   pub drops : old.untold ≢ Dropped → Drops aborts.changed new.journal.entries (is_dropped new.untold)
 
 -- the same after items were taken
-pub record OpensUntold (old new : Seat) : Type 0 where
+pub record OpensUntold (old new : BusNode) : Type 0 where
   pub taken : List Entry
   pub items : MayHaveItems old.journal.entries taken
   pub aborts : MayHaveAbort taken new.journal.entries
@@ -68,16 +69,16 @@ pub record Brings (j : List Entry) (driven seen : Level) (outcome : BitOutcome) 
   pub overrun : outcome.overrun ≡ is_overrun bit.verdict
   pub received : outcome.events.received ≡ None → bit.verdict ≡ None
 
--- one bit of a seat with which nothing happened, and nothing was or is to be told
-pub record IsQuietBit (seen : Level) (old new : Seat) : Type 0 where
+-- one bit of a bus node with which nothing happened, and nothing was or is to be told
+pub record IsQuietBit (seen : Level) (old new : BusNode) : Type 0 where
   pub untold : old.untold ≡ Nothing
   pub told : new.untold ≡ Nothing
   pub samples : Samples old.node new.node seen (nothing (is_receiving old.node))
   pub shows : ShowsSame old.node new.node
   pub whole : new.journal.entries ≡ old.journal.entries ++ Bit old.drives seen ∷ []
 
--- the turn says this of the bit that is over, and what the seat shows after it
-pub record TurnOf (s : Seat) (events : BitEvents) (overrun : Bool) (turn : BusTurn) : Type 0 where
+-- the turn says this of the bit that is over, and what the bus node shows after it
+pub record TurnOf (s : BusNode) (events : BitEvents) (overrun : Bool) (turn : BusTurn) : Type 0 where
   pub activation : turn.activation ≡ s.ended + open_in s.activity
   pub events_are : turn.events ≡ events
   pub counters : (entries : List NodeEntry) (found : List FinishedPiece) (h : StandsAt s.node entries found) →
@@ -99,19 +100,19 @@ pub record SaysAs (turn other : BusTurn) : Type 0 where
 
 -- what a port is told of a bit, by what stood before it: this turn, and where all was told already it isn't what stood;
 -- or nothing, where all was told and it is
-pub record TellsTurn {B : Type 0} (was_told : BusTurn → Type 0) (was now : B) (s : Seat) (stands : BusTurn)
+pub record TellsTurn {B : Type 0} (was_told : BusTurn → Type 0) (was now : B) (s : BusNode) (stands : BusTurn)
     (told : Bool) (turn : BusTurn) : Type 0 where
   pub yes : told ≡ true → was_told turn × (s.untold ≡ Nothing → turn ≢ stands)
   pub no : told ≡ false → (now ≡ was) × (s.untold ≡ Nothing) × (turn ≡ stands)
 
--- one bit of a seat brought nothing: its journal has the bit more and nothing else
-pub record IsIdleBit (seen : Level) (old new : Seat) : Type 0 where
+-- one bit of a bus node brought nothing: its journal has the bit more and nothing else
+pub record IsIdleBit (seen : Level) (old new : BusNode) : Type 0 where
   pub tells : TellsNothing old.journal.entries old.drives seen
   pub whole : new.journal.entries ≡ old.journal.entries ++ Bit old.drives seen ∷ []
 
--- one bit of a seat: its journal has the bit, and its port was told the turn of that bit or passed over; now nothing is
--- to be told
-pub record Turns (was_told : BusTurn → Type 0) (was_kept : Type 0) (seen : Level) (old new : Seat) : Type 0 where
+-- one bit of a bus node: its journal has the bit, and its port was told the turn of that bit or passed over; now
+-- nothing is to be told
+pub record Turns (was_told : BusTurn → Type 0) (was_kept : Type 0) (seen : Level) (old new : BusNode) : Type 0 where
   pub bit : HasBit old.journal.entries old.drives seen new.journal.entries
   pub turn : BusTurn
   pub is_turn : (changed : Bool) → Drops changed old.journal.entries (is_dropped old.untold) →

@@ -3,10 +3,10 @@ use Rattle.sja_c.proofs.Walks.{◌≡◌, ℕ, zero, ◌^◌, ◌<◌, sym, subs
 use Rattle.sja_c.proofs.Walks.{ftrue, Ty, bare, Logic, sem, fact_use, lone, Ptr, block_ptr, null_ptr, Testable, lies_at}
 use Rattle.sja_c.proofs.Walks.{token, dealloc_token_start, box_owns}
 use Rattle.sja_c.specs.Handles.{is_handle}
-use Rattle.sja_calls.specs.contracts.held_session.HeldSession.{the_row as R}
-use Rattle.sja_calls.specs.declared.held_session.HeldSession.{HeldSession}
+use Rattle.sja_calls.specs.contracts.handle.Handle.{the_row as R}
+use Rattle.sja_calls.specs.declared.handle.Handle.{Handle}
 
-module _ {M : Type 1} {𝓤 : Ura M} (𝓛 : Logic 𝓤) (h : HeldSession) (Entry Runs : Ptr → SProp 𝓤) where
+module _ {M : Type 1} {𝓤 : Ura M} (𝓛 : Logic 𝓤) (h : Handle) (Entry Runs : Ptr → SProp 𝓤) where
   pub each_handle : ent 𝓤 (sep 𝓤 (Entry null_ptr) (sem 𝓛 ftrue)) (Runs null_ptr)
       → ((b o : ℕ) → Testable (block_ptr b o)
       → ent 𝓤 (sep 𝓤 (Entry (block_ptr b o)) (sem 𝓛 (box_owns (token h) R (block_ptr b o) h))) (Runs (block_ptr b o)))

@@ -17,19 +17,19 @@ use Rattle.sja_c.proofs.answer.SjaAnswer.TheLaws as laws
 use Rattle.sja_c.specs.Handles.{is_handle}
 use Rattle.sja_c.specs.contracts.answer.SjaAnswer.{the_row as Out}
 use Rattle.sja_c.specs.declared.answer.SjaAnswer.{SjaAnswer}
-use Rattle.sja_calls.specs.contracts.held_session.HeldSession.{the_row as R}
-use Rattle.sja_calls.specs.declared.held_session.HeldSession.{HeldSession}
+use Rattle.sja_calls.specs.contracts.handle.Handle.{the_row as R}
+use Rattle.sja_calls.specs.declared.handle.Handle.{Handle}
 
 -- the session h, lent at a place under a name
-abbrev pub loan : HeldSession → ℕ → ℕ → ℕ → MutBor HeldSession
+abbrev pub loan : Handle → ℕ → ℕ → ℕ → MutBor Handle
 loan h b o γ = record { ref_ptr = (b, o); ghost_name = γ; now = h }
 
 -- Tokens are those of the other lifetimes, which come back. Owned is what the other parameters own, Ends what is bound
 -- for them at exit, and Rest what is said of that.
 module _ {M : Type 1} (𝓤 : Ura M) (𝓛 : Logic 𝓤) (𝓜 : Model 𝓤 𝓛.H) (𝓡 : Running 𝓤 𝓛.H 𝓜) (callee : Callee)
-    (h : HeldSession)
+    (h : Handle)
     (vs : List Val) (Tokens : Item 𝓤) (Owned : Fml) (Ends : Type 0) (Rest : Ends → Fml)
-    (Says : HeldSession → Ends → SjaAnswer → Type 0) (b o : ℕ) where
+    (Says : Handle → Ends → SjaAnswer → Type 0) (b o : ℕ) where
   open 𝓛 use {H}
 
   abbrev 𝓣 : MachineTables 𝓤 H 𝓜
@@ -42,7 +42,7 @@ module _ {M : Type 1} (𝓤 : Ura M) (𝓛 : Logic 𝓤) (𝓜 : Model 𝓤 𝓛
 
   abbrev Gives : Lft → ℕ → Val → Item 𝓤
   Gives κ γ v = later (some (λ (r : SjaAnswer). ((‵ (flft κ full_share) ⊛ Tokens) ⊛ ‵ (Out.own_val r (v ∷ []))) ⊛
-      some (λ (ws : HeldSession × Ends). ‵ (fsep (left ((MutRef (named 0) κ R).exit yes) (loan h b o γ) ws.0)
+      some (λ (ws : Handle × Ends). ‵ (fsep (left ((MutRef (named 0) κ R).exit yes) (loan h b o γ) ws.0)
       (Rest ws.1))
       ⊛ raw (fact 𝓤 (Says ws.0 ws.1 r)))))
 
@@ -58,12 +58,12 @@ module _ {M : Type 1} (𝓤 : Ura M) (𝓛 : Logic 𝓤) (𝓜 : Model 𝓤 𝓛
   abbrev pub Taken : Item 𝓤
   Taken = ‵ (box_owns (token h) R (block_ptr b o) h) ⊛ Tokens ⊛ ‵ Owned
 
-  abbrev Told : Val → SjaAnswer → HeldSession → Ends → Item 𝓤
+  abbrev Told : Val → SjaAnswer → Handle → Ends → Item 𝓤
   Told v r z e = given (Good (lone Out.mir) v) (given (Says z e r)
       (‵ (is_handle (block_ptr b o) z) ⊛ ‵ (Out.own_val r (v ∷ [])) ⊛ ‵ (Rest e) ⊛ Tokens))
 
   abbrev pub Back : Val → Item 𝓤
-  Back v = later (some (λ (r : SjaAnswer). some (λ (z : HeldSession). some (Told v r z))))
+  Back v = later (some (λ (r : SjaAnswer). some (λ (z : Handle). some (Told v r z))))
 
   abbrev pub Lent : Contract 𝓤
   Lent = record { Ghost = Unit {0}; args = λ u. vptr b o ∷ vs; pre = λ u. mean 𝓛 Taken; post = λ u v. mean 𝓛 (Back v) }
@@ -85,8 +85,8 @@ module _ {M : Type 1} (𝓤 : Ura M) (𝓛 : Logic 𝓤) (𝓜 : Model 𝓤 𝓛
       await ! tt $ move ! (0 ∷ 3 ∷ []) $ fjoin ! $ move ! (4 ∷ []) $
       -- [the answer; the handle; its borrow; the rest; the tokens]
       peeks ! Out (Is Out) (shows 𝓛 Out) r (v ∷ []) (λ is. at_once ! $
-      show ! (λ (x : SjaAnswer). mean 𝓛 (some (λ (z : HeldSession). some (Told v x z)))) r $
-      show ! (λ (z : HeldSession). mean 𝓛 (some (Told v r z))) ws.0 $ show ! (λ (e : Ends). mean 𝓛 (Told v r ws.0 e))
+      show ! (λ (x : SjaAnswer). mean 𝓛 (some (λ (z : Handle). some (Told v x z)))) r $
+      show ! (λ (z : Handle). mean 𝓛 (some (Told v r z))) ws.0 $ show ! (λ (e : Ends). mean 𝓛 (Told v r ws.0 e))
       ws.1 $
       check ! ((laws.the_row_laws.lawful 𝓛).typed r _ is).0 $ check ! said $ keep ! (1 ∷ 0 ∷ 3 ∷ 4 ∷ []) $ done !))))
 

@@ -28,8 +28,8 @@ use Rattle.sja_c.proofs.answer.no_handle.Symbol as none_is
 use Rattle.sja_c.specs.Handles.{is_handle, AtHandle}
 use Rattle.sja_c.specs.contracts.answer.SjaAnswer.{the_row as Out}
 use Rattle.sja_c.specs.declared.answer.SjaAnswer.{SjaAnswer}
-use Rattle.sja_calls.specs.contracts.held_session.HeldSession.{the_row as R}
-use Rattle.sja_calls.specs.declared.held_session.HeldSession.{HeldSession}
+use Rattle.sja_calls.specs.contracts.handle.Handle.{the_row as R}
+use Rattle.sja_calls.specs.declared.handle.Handle.{Handle}
 
 -- the locals' types: what is answered, and the session's loan
 abbrev result : Ty
@@ -94,11 +94,11 @@ module _ {M : Type 1} (𝓤 : Ura M) (𝓛 : Logic 𝓤) (𝓜 : Model 𝓤 𝓛
       (move ! (11 ∷ 9 ∷ 7 ∷ 5 ∷ 3 ∷ 1 ∷ 0 ∷ []) $ k b₀ b₁ b₂ b₃ b₄ bs)))))))
 
   -- ---- the walk
-  module _ (h : HeldSession) (Owned : Fml) (Ends : Type 0) (Rest : Ends → Fml) (Says : HeldSession → SjaAnswer → Type 0)
+  module _ (h : Handle) (Owned : Fml) (Ends : Type 0) (Rest : Ends → Fml) (Says : Handle → SjaAnswer → Type 0)
       (Post : Ptr → Val → SProp 𝓤) (owned : ent 𝓤 (emp 𝓤) (sem 𝓛 Owned))
       (lent : (b o : ℕ) → Triple 𝓤 (𝓣.C callee)
       (Lent 𝓤 𝓛 𝓜 𝓡 callee h vs (‵ ftrue) Owned Ends Rest (λ z e. Says z) b o))
-      (ends : (p : Ptr) (v : Val) (r : SjaAnswer) (z : HeldSession) → AtHandle p (r ≡ none_answer) (Says z r)
+      (ends : (p : Ptr) (v : Val) (r : SjaAnswer) (z : Handle) → AtHandle p (r ≡ none_answer) (Says z r)
       → ent 𝓤 (sep 𝓤 (sem 𝓛 (is_handle p z)) (sem 𝓛 (Out.own_val r (v ∷ [])))) (Post p v))
       (Entry : Ptr → SProp 𝓤) where
     abbrev Runs : Ptr → SProp 𝓤

@@ -6,7 +6,7 @@ use mir.Syntax.{ptr_eq, addr_of, rv_opd, deref, local, value_local, ty_ptr, ty_b
 use mir.Syntax.{w32, w64}
 use denote.Memory.{lone, pointee}
 use Rattle.sja_c.specs.contracts.answer.SjaAnswer.{the_row as Out}
-use Rattle.sja_calls.specs.contracts.held_session.HeldSession.{the_row as R}
+use Rattle.sja_calls.specs.contracts.handle.Handle.{the_row as R}
 
 abbrev whole : ℕ → Place
 whole k = place k []

@@ -30,7 +30,7 @@ use Rattle.sja_c.specs.Answers.{answer, no_handle_status}
 use Rattle.sja_c.specs.Handles.{is_handle, AtHandle}
 use Rattle.sja_c.specs.contracts.answer.SjaAnswer.{the_row as Out}
 use Rattle.sja_c.specs.declared.answer.SjaAnswer.{SjaAnswer}
-use Rattle.sja_calls.specs.declared.held_session.HeldSession.{HeldSession}
+use Rattle.sja_calls.specs.declared.handle.Handle.{Handle}
 
 -- the parameters
 abbrev pub numbers : ℕ → List (Slot 0)
@@ -96,9 +96,9 @@ fits zero a = tt
 fits (suc n) a = (tt, fits n a.1)
 
 -- what the function that is called is asked at, the session h lent at (b, o)
-abbrev pub asked : (n : ℕ) → Values n → HeldSession → ℕ → ℕ → Lft → ℕ →
+abbrev pub asked : (n : ℕ) → Values n → Handle → ℕ → ℕ → Lft → ℕ →
     ((Lft × Unit {0}) × (Share × Unit {0}) × Unit {0}
-    × (MutBor HeldSession × Values n) × (List Val × Valss (types_at (numbers n) tt))) × Unit {0}
+    × (MutBor Handle × Values n) × (List Val × Valss (types_at (numbers n) tt))) × Unit {0}
 asked n a h b o κ γ = (((κ, tt), (full_share, tt), tt, (loan h b o γ, a), (vptr b o ∷ [], words n a)), tt)
 
 module _ {M : Type 1} {𝓤 : Ura M} (𝓛 : Logic 𝓤) where
@@ -119,35 +119,35 @@ module _ {M : Type 1} {𝓤 : Ura M} (𝓛 : Logic 𝓤) where
 
 -- Says is what the contract says of the numbers, the session before and after, and the answer
 module _ {M : Type 1} (𝓤 : Ura M) (𝓛 : Logic 𝓤) (𝓜 : Model 𝓤 𝓛.H) (𝓡 : Running 𝓤 𝓛.H 𝓜) (n : ℕ)
-    (Says : Values n → HeldSession → HeldSession → SjaAnswer → Type 0) (none_wired : Wired 𝓡.env none_is.code)
+    (Says : Values n → Handle → Handle → SjaAnswer → Type 0) (none_wired : Wired 𝓡.env none_is.code)
     (callee : Callee) where
   open 𝓛 use {H}
 
   abbrev 𝓣 : MachineTables 𝓤 H 𝓜
   𝓣 = tables 𝓤 H 𝓜 𝓡 𝓡.env
 
-  abbrev Told : Ptr → Values n → HeldSession → SjaAnswer → HeldSession → SProp 𝓤
+  abbrev Told : Ptr → Values n → Handle → SjaAnswer → Handle → SProp 𝓤
   Told p a h r z = sep 𝓤 (sem 𝓛 (is_handle p z))
       (fact 𝓤 (AtHandle p (r ≡ answer no_handle_status 0) (Says a h z r)))
 
   abbrev clauses : Clauses 𝓤 (taken n)
   clauses κs a = record {
-    ghost = HeldSession;
+    ghost = Handle;
     requires = λ h. sem 𝓛 (is_handle a.0 h);
     ensures = λ h r e. ex 𝓤 (Told a.0 a.1 h r);
   }
 
-  abbrev Asked : Values n → HeldSession → ℕ → ℕ → Lft → ℕ → Contract 𝓤
+  abbrev Asked : Values n → Handle → ℕ → ℕ → Lft → ℕ → Contract 𝓤
   Asked a h = Called 𝓤 𝓛 𝓜 𝓡 callee h (row n a) (‵ ftrue) (owns (types_at (numbers n) tt) a (words n a)) (Ends n a)
       (lasts_of tt (numbers n) (all yes (numbers n)) a) (λ z e. Says a h z)
 
   abbrev W : Contract 𝓤
   W = walk_of 𝓛 (taken n) (stayed n) clauses
 
-  abbrev at : Ptr → Values n → HeldSession → W.Ghost
+  abbrev at : Ptr → Values n → Handle → W.Ghost
   at p a h = ((tt, tt, tt, (p, a), (rawptr_vals p, words n a)), h)
 
-  leaves_told : (a : Values n) (h : HeldSession) (p : Ptr) (v : Val) (r : SjaAnswer) (z : HeldSession)
+  leaves_told : (a : Values n) (h : Handle) (p : Ptr) (v : Val) (r : SjaAnswer) (z : Handle)
       → AtHandle p (r ≡ answer no_handle_status 0) (Says a h z r)
       → ent 𝓤 (sep 𝓤 (sem 𝓛 (is_handle p z)) (sem 𝓛 (Out.own_val r (v ∷ [])))) (W.post (at p a h) v)
   leaves_told a h p v r z said =
@@ -160,7 +160,7 @@ module _ {M : Type 1} (𝓤 : Ura M) (𝓛 : Logic 𝓤) (𝓜 : Model 𝓤 𝓛
       by ! (leaves 𝓛 (taken n) (stayed n) clauses (at p a h) v r (tt, ends n a) (tt, fits n a))
 
   pub meets : (k : Callee) → Closed 𝓤 H 𝓣.C 𝓣.Λ k (template.function n none_is.name callee)
-      → ((a : Values n) (h : HeldSession) (b o : ℕ) (κ : Lft) (γ : ℕ) → Triple 𝓤 (𝓣.C callee) (Asked a h b o κ γ))
+      → ((a : Values n) (h : Handle) (b o : ℕ) (κ : Lft) (γ : ℕ) → Triple 𝓤 (𝓣.C callee) (Asked a h b o κ γ))
       → Meets 𝓛 (taken n).signature (𝓣.C k) (closing 𝓛 (taken n) clauses)
   meets k closed met =
       proved 𝓛 (taken n) (stayed n) clauses 𝓜 𝓡

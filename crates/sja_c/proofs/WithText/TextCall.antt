@@ -34,15 +34,15 @@ use Rattle.sja_c.specs.contracts.answer.SjaAnswer.{the_row as Out}
 use Rattle.sja_c.specs.contracts.texts.no_text as none
 use Rattle.sja_c.specs.contracts.texts.sja_put_plan as f
 use Rattle.sja_c.specs.declared.answer.SjaAnswer.{SjaAnswer}
-use Rattle.sja_calls.specs.contracts.held_session.HeldSession.{the_row as R}
-use Rattle.sja_calls.specs.declared.held_session.HeldSession.{HeldSession}
+use Rattle.sja_calls.specs.contracts.handle.Handle.{the_row as R}
+use Rattle.sja_calls.specs.declared.handle.Handle.{Handle}
 
 abbrev stayed : Stays f.ended.signature.params f.ended.kept
 stayed = (stay_dropped _ yes, (gave_slice (0 ∷ []) tt (plain (λ _. u8)), tt))
 
 -- what the function that is called is asked at, the session h lent at (b, o) and the text x passed on
-abbrev pub asked : Lft → Share → MutBor (List ℕ) → HeldSession → ℕ → ℕ → Lft → ℕ → ((Lft × (Lft × Unit {0}))
-    × (Share × (Share × Unit {0})) × Unit {0} × (MutBor HeldSession × (MutBor (List ℕ) × Unit {0}))
+abbrev pub asked : Lft → Share → MutBor (List ℕ) → Handle → ℕ → ℕ → Lft → ℕ → ((Lft × (Lft × Unit {0}))
+    × (Share × (Share × Unit {0})) × Unit {0} × (MutBor Handle × (MutBor (List ℕ) × Unit {0}))
     × (List Val × (List Val × Unit {0}))) × Unit {0}
 asked κ q x h b o κ₁ γ = (
   ((κ₁, (κ, tt)), (full_share, (q, tt)), tt, (loan h b o γ, (x, tt)), (vptr b o ∷ [], (mut_slice_vals x, tt))),
@@ -51,7 +51,7 @@ asked κ q x h b o κ₁ γ = (
 
 -- Says is what the contract says of the session before and after, the text before and after, and the answer
 module _ {M : Type 1} (𝓤 : Ura M) (𝓛 : Logic 𝓤) (𝓜 : Model 𝓤 𝓛.H) (𝓡 : Running 𝓤 𝓛.H 𝓜)
-    (Says : HeldSession → HeldSession → List ℕ → List ℕ → SjaAnswer → Type 0) (none_wired : Wired 𝓡.env none_is.code)
+    (Says : Handle → Handle → List ℕ → List ℕ → SjaAnswer → Type 0) (none_wired : Wired 𝓡.env none_is.code)
     (callee : Callee) where
   abbrev 𝓣 : MachineTables 𝓤 𝓛.H 𝓜
   𝓣 = tables 𝓤 𝓛.H 𝓜 𝓡 𝓡.env
@@ -59,15 +59,15 @@ module _ {M : Type 1} (𝓤 : Ura M) (𝓛 : Logic 𝓤) (𝓜 : Model 𝓤 𝓛
   abbrev function : Fn
   function = template.function none_is.name callee
 
-  abbrev Tells : Ptr → HeldSession → List ℕ → List ℕ → SjaAnswer → HeldSession → Type 0
+  abbrev Tells : Ptr → Handle → List ℕ → List ℕ → SjaAnswer → Handle → Type 0
   Tells p h was zs r z = AtHandle p ((r ≡ answer no_handle_status 0) × (zs ≡ was)) (Says h z was zs r)
 
-  abbrev Told : Ptr → HeldSession → List ℕ → List ℕ → SjaAnswer → HeldSession → SProp 𝓤
+  abbrev Told : Ptr → Handle → List ℕ → List ℕ → SjaAnswer → Handle → SProp 𝓤
   Told p h was zs r z = sep 𝓤 (sem 𝓛 (is_handle p z)) (fact 𝓤 (Tells p h was zs r z))
 
   abbrev clauses : Clauses 𝓤 f.ended
   clauses κs a = record {
-    ghost = HeldSession;
+    ghost = Handle;
     requires = λ h. sem 𝓛 (is_handle a.0 h);
     ensures = λ h r e. ex 𝓤 (Told a.0 h a.1.0.now e.1.0.now r);
   }
@@ -75,7 +75,7 @@ module _ {M : Type 1} (𝓤 : Ura M) (𝓛 : Logic 𝓤) (𝓜 : Model 𝓤 𝓛
   abbrev W : Contract 𝓤
   W = walk_of 𝓛 f.ended stayed clauses
 
-  module _ (κ : Lft) (q : Share) (x : MutBor (List ℕ)) (count : length x.now < 2 ^ 64) (h : HeldSession) where
+  module _ (κ : Lft) (q : Share) (x : MutBor (List ℕ)) (count : length x.now < 2 ^ 64) (h : Handle) where
     abbrev at : Ptr → W.Ghost
     at p = (((κ, tt), (q, tt), tt, (p, (x, tt)), (rawptr_vals p, (mut_slice_vals x, tt))), h)
 
@@ -108,7 +108,7 @@ module _ {M : Type 1} (𝓤 : Ura M) (𝓛 : Logic 𝓤) (𝓜 : Model 𝓤 𝓛
     Comes = Back 𝓤 𝓛 𝓜 𝓡 callee h (mut_slice_vals x ++ []) Token Text (List ℕ × Unit {0}) Left
         (λ z zs. Says h z x.now zs.0)
 
-    ends : (p : Ptr) (v : Val) (r : SjaAnswer) (z : HeldSession) (zs : List ℕ) → Tells p h x.now zs r z
+    ends : (p : Ptr) (v : Val) (r : SjaAnswer) (z : Handle) (zs : List ℕ) → Tells p h x.now zs r z
         → ent 𝓤 (⋆ 𝓛 (‵ (is_handle p z) ∷ ‵ (Out.own_val r (v ∷ [])) ∷ ‵ (Left (zs, tt)) ∷ Token ∷ []))
         (W.post (at p) v)
     ends p v r z zs said =
@@ -179,7 +179,7 @@ module _ {M : Type 1} (𝓤 : Ura M) (𝓛 : Logic 𝓤) (𝓜 : Model 𝓤 𝓛
       at_each = each_handle 𝓛 h Entry Runs null held
 
   pub meets : (k : Callee) → Closed 𝓤 𝓛.H 𝓣.C 𝓣.Λ k function
-      → ((κ : Lft) (q : Share) (x : MutBor (List ℕ)) (count : length x.now < 2 ^ 64) (h : HeldSession) (b o : ℕ)
+      → ((κ : Lft) (q : Share) (x : MutBor (List ℕ)) (count : length x.now < 2 ^ 64) (h : Handle) (b o : ℕ)
       (κ₁ : Lft)
       (γ : ℕ) → Triple 𝓤 (𝓣.C callee) (Given κ q x count h b o κ₁ γ))
       → Meets 𝓛 f.signature (𝓣.C k) (closing 𝓛 f.ended clauses)

@@ -7,7 +7,7 @@ use mir.Syntax.{ty_struct, tcons, tnil, named, erased, mut, w8, w64, Lifetime}
 use denote.Memory.{lone, pointee}
 use denote.Slice.{slice_name}
 use Rattle.sja_c.specs.contracts.answer.SjaAnswer.{the_row as Out}
-use Rattle.sja_calls.specs.contracts.held_session.HeldSession.{the_row as R}
+use Rattle.sja_calls.specs.contracts.handle.Handle.{the_row as R}
 
 -- a `&mut [u8]`, and a `&mut` to its first byte
 abbrev bytes : Lifetime → Ty

@@ -9,7 +9,7 @@ use super::super::page::{Page, Piece};
 use super::undone_steps::turns_for;
 use sja_log::{End, RunLog};
 use sja_plan::{Plan, Turn};
-use sja_script::Step;
+use sja_steps::Step;
 
 /// Says that the run was cut off, in which turn, and which turns didn't come, where its bits were spent.
 pub(crate) fn cut_off(page: &mut Page, document: &Document, plan: &Plan, log: &RunLog) {

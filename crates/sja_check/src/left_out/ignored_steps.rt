@@ -3,7 +3,7 @@
 use super::super::document::Document;
 use super::super::kind::Kind;
 use super::super::page::{Page, Piece};
-use sja_script::{Done, Ignored, Step};
+use sja_steps::{Ignored, Step, StepRecord};
 
 /// Says which steps of a node the controller ignored, and why.
 pub(crate) fn ignored_hints(
@@ -11,7 +11,7 @@ pub(crate) fn ignored_hints(
     document: &Document,
     node: usize,
     steps: &[Step],
-    done: &[Done],
+    done: &[StepRecord],
 ) {
     for (place, one) in done.iter().enumerate() {
         let Some(step) = steps.get(place) else {

@@ -4,7 +4,7 @@ use super::super::document::Document;
 use super::super::kind::Kind;
 use super::super::page::{Page, Piece};
 use super::super::texts::are_placed;
-use sja_script::Strike;
+use sja_steps::Strike;
 use std::alloc::{AllocError, Global};
 use toml::Value;
 

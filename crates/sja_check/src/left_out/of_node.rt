@@ -11,8 +11,8 @@ use super::steps_left::{left_hints, more_hints};
 use super::undone_steps::{steps_in_turns, undone_hint};
 use super::waiting::waits_at;
 use sja_log::RunLog;
-use sja_plan::{Plan, RAW_VERSION, Turn};
-use sja_script::Step;
+use sja_plan::{FIRST_BY_BYTES, Plan, Turn};
+use sja_steps::Step;
 
 /// Says what there is to say of a node: that it is never started, the steps that were refused or ignored, and the first
 /// one that wasn't done.
@@ -40,7 +40,7 @@ pub(crate) fn node_hints(
     if done >= steps.len() {
         return;
     }
-    if plan.version() < RAW_VERSION {
+    if plan.version() < FIRST_BY_BYTES {
         undone_hint(page, document, node, plan.turns(), steps, done, log.end());
     } else if waits_at(plan, log, node).is_some() {
         more_hints(page, document, node, done.saturating_add(1), steps.len());
@@ -66,7 +66,7 @@ fn never_started(version: u8, steps: &[Step]) -> &'static str {
             return "";
         }
     }
-    if version < RAW_VERSION {
+    if version < FIRST_BY_BYTES {
         "{0}node {1} is never started: it has no step \"start\""
     } else {
         "{0}node {1} is never started: it has no step \"start\" or \"write 0 00\""

@@ -5,8 +5,8 @@ use super::super::kind::Kind;
 use super::super::page::{Page, Piece};
 use super::remedy::remedy_of;
 use super::starts::Starts;
-use sja_plan::RAW_VERSION;
-use sja_script::{Done, Refusal, Step, StepAnswer};
+use sja_plan::FIRST_BY_BYTES;
+use sja_steps::{Refusal, Step, StepAnswer, StepRecord};
 
 /// Says which steps of a node were refused, with what to do.
 pub(crate) fn refused_hints(
@@ -15,7 +15,7 @@ pub(crate) fn refused_hints(
     version: u8,
     node: usize,
     steps: &[Step],
-    done: &[Done],
+    done: &[StepRecord],
 ) {
     let mut starts = Starts::NoneYet;
     for (place, one) in done.iter().enumerate() {
@@ -51,7 +51,7 @@ fn starts_after(starts: Starts, version: u8, step: &Step, answer: &StepAnswer) -
 pub(crate) fn can_start(version: u8, step: &Step) -> bool {
     match step {
         Step::Start => true,
-        Step::Write(0, value) => version >= RAW_VERSION && *value % 2 == 0,
+        Step::Write(0, value) => version >= FIRST_BY_BYTES && *value % 2 == 0,
         _ => false,
     }
 }

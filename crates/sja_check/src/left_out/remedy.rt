@@ -1,8 +1,8 @@
 //! What to do about a refused step.
 
 use super::starts::Starts;
-use sja_plan::RAW_VERSION;
-use sja_script::{Refusal, Step};
+use sja_plan::FIRST_BY_BYTES;
+use sja_steps::{Refusal, Step};
 
 /// What to do about a step that was refused so in this version, in a node whose starts have come to this (the table of
 /// refused steps in docs/use/SEEN.md).
@@ -14,7 +14,7 @@ pub(crate) fn remedy_of(
 ) -> &'static str {
     match refusal {
         Refusal::WrongState => state_remedy(step, starts),
-        Refusal::NoActivationLeft if version < RAW_VERSION => "a node has eight starts",
+        Refusal::NoActivationLeft if version < FIRST_BY_BYTES => "a node has eight starts",
         Refusal::NoActivationLeft => "a node has 64 starts",
         Refusal::Empty => "no message is there; let the bus run",
         Refusal::Stopped => "bus-off came: \"stop\", then \"start\"",

@@ -1,6 +1,6 @@
 //! [`Story`]: what a node's journal says of its driver.
 
-use super::gift::{Gift, TimedGift, gifts_in};
+use super::given_item::{GivenItem, TimedGivenItem, given_items_in};
 use super::requests::unacknowledged_in;
 use sja_log::RunLog;
 use std::alloc::{AllocError, Global};
@@ -9,7 +9,7 @@ use std::alloc::{AllocError, Global};
 #[derive(Drop)]
 pub(crate) struct Story {
     /// What the driver gave the bus, in order.
-    pub(crate) gifts: Vec<TimedGift>,
+    pub(crate) given_items: Vec<TimedGivenItem>,
     /// The last bit in which nobody acknowledged the frame of the request that is held at the end, where it was so.
     pub(crate) alone: Option<u32>,
 }
@@ -20,9 +20,9 @@ pub(crate) struct Story {
 pub(crate) fn stories_of(alloc: Global, log: &RunLog) -> Result<Vec<Story>, AllocError> {
     let mut stories = Vec::new(alloc);
     for run in log.nodes() {
-        let gifts = gifts_in(alloc, run.journal())?;
+        let given_items = given_items_in(alloc, run.journal())?;
         let alone = unacknowledged_in(run.journal(), log.bits());
-        stories.push(Story { gifts, alone })?;
+        stories.push(Story { given_items, alone })?;
     }
     Ok(stories)
 }
@@ -31,15 +31,15 @@ impl Story {
     /// Why the node acknowledges nothing in this bit, by its last gift before it; nothing where it could.
     pub(crate) fn why_silent(&self, bit: u32) -> &'static str {
         let mut why = "never starts";
-        for given in &self.gifts {
+        for given in &self.given_items {
             if given.bits > bit {
                 return why;
             }
-            why = match given.gift {
-                Gift::Start(true) => "listens only",
-                Gift::Start(false) => "",
-                Gift::Stop => "is stopped",
-                Gift::Off => "is bus-off",
+            why = match given.given_item {
+                GivenItem::Start(true) => "listens only",
+                GivenItem::Start(false) => "",
+                GivenItem::Stop => "is stopped",
+                GivenItem::Off => "is bus-off",
             };
         }
         why

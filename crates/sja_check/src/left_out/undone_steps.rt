@@ -5,7 +5,7 @@ use super::super::kind::Kind;
 use super::super::page::{Page, Piece};
 use sja_log::End;
 use sja_plan::Turn;
-use sja_script::Step;
+use sja_steps::Step;
 
 /// Says that the first step of a node behind so many wasn't done, and why.
 pub(crate) fn undone_hint(

@@ -8,7 +8,7 @@ use super::super::page::{Page, Piece};
 use super::undone_steps::{steps_in_turns, turns_for};
 use sja_log::{End, NodeRun, RunLog};
 use sja_plan::{Plan, Turn};
-use sja_script::Step;
+use sja_steps::Step;
 
 /// Says of each driver that waits up to the end for what; false where none does.
 pub(crate) fn waiting_hints(

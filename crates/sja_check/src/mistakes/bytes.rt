@@ -2,7 +2,7 @@
 
 use super::super::outline::line_at;
 use super::super::page::{Page, Piece};
-use sja_plan::{MOST_BYTES, most_bytes};
+use sja_plan_reading::{MOST_BYTES, most_bytes};
 
 /// What a line of version 3 is without its spaces.
 static VERSION_3: &[u8] = b"version=3";

@@ -1,7 +1,7 @@
 //! What is said of a fault where nothing is known of its place.
 
 use super::super::page::{Page, Piece};
-use sja_plan::PlanFault;
+use sja_plan_reading::PlanFault;
 
 /// All keys, in words.
 pub(crate) const KEYS_ARE: &str = "the keys are version, bits, node, turns, faults";

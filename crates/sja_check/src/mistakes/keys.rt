@@ -7,14 +7,14 @@ use super::general::KEYS_ARE;
 use super::node_keys::of_nodes;
 use super::values::{kind_of, of_list};
 use super::wording::Wording;
-use sja_plan::RAW_VERSION;
+use sja_plan::FIRST_BY_BYTES;
 use toml::Value;
 
 /// All keys of a plan.
 pub(crate) static KEYS: [&str; 5] = ["version", "bits", "node", "turns", "faults"];
 
 /// All keys of a plan of version 3.
-static RAW_KEYS: [&str; 6] = ["version", "bits", "node", "turns", "strikes", "faults"];
+static BY_BYTES_KEYS: [&str; 6] = ["version", "bits", "node", "turns", "strikes", "faults"];
 
 /// What faults are called otherwise.
 static FAULTS: [&str; 3] = ["strikes", "strike", "errors"];
@@ -55,16 +55,16 @@ pub(crate) fn of_long<'a>(document: &'a Document) -> Wording<'a> {
 
 /// The keys that a plan of this version has.
 pub(crate) fn keys_of(version: u8) -> &'static [&'static str] {
-    if version < RAW_VERSION {
+    if version < FIRST_BY_BYTES {
         &KEYS
     } else {
-        &RAW_KEYS
+        &BY_BYTES_KEYS
     }
 }
 
 /// The same in words.
 fn keys_are(version: u8) -> &'static str {
-    if version < RAW_VERSION {
+    if version < FIRST_BY_BYTES {
         KEYS_ARE
     } else {
         "the keys are version, bits, node, turns, strikes"
@@ -153,7 +153,7 @@ pub(crate) fn of_key<'a>(key: &'a str, version: u8) -> Wording<'a> {
             "write the line [[node]] before it, once for each node",
         ];
     } else if FAULTS.contains(&key) {
-        let wrong = if version < RAW_VERSION {
+        let wrong = if version < FIRST_BY_BYTES {
             "{0}no key is called <{1}>, did you mean \"faults\"?"
         } else {
             "{0}no key is called <{1}>, did you mean \"strikes\"?"

@@ -7,8 +7,9 @@ use super::super::page::Page;
 use super::in_document;
 use super::keys::{keys_of, of_key, of_long};
 use super::numbers::of_count;
-use sja_plan::{MOST_BYTES, PlanFault, RAW_VERSION, read_plan};
-use sja_script::MOST_NODES;
+use sja_plan::FIRST_BY_BYTES;
+use sja_plan_reading::{MOST_BYTES, PlanFault, read_plan};
+use sja_steps::MOST_NODES;
 
 /// Says of a long document with a wrong key, or with too many nodes, what its tables would say; where it is long even
 /// abridged what its front says, and else nothing. So long a document has version 3.
@@ -31,7 +32,7 @@ pub(crate) fn in_long(page: &mut Page, bytes: &[u8], fault: PlanFault) -> bool {
 /// Says which key is wrong: the first one that no plan has, where that is written without escapes, else the one in this
 /// front of the document.
 fn misnamed(page: &mut Page, bytes: &[u8], front: &Document) -> bool {
-    match first_unknown(bytes, keys_of(RAW_VERSION)) {
+    match first_unknown(bytes, keys_of(FIRST_BY_BYTES)) {
         Some(key) => of_wrong(page, bytes, key),
         None => of_long(front).tell(page, front),
     }
@@ -60,7 +61,7 @@ fn of_wrong(page: &mut Page, bytes: &[u8], key: Token) -> bool {
         return page.refuse();
     };
     match document.first_key() {
-        Some(key) if !key.contains('\\') => of_key(key, RAW_VERSION).tell(page, &document),
+        Some(key) if !key.contains('\\') => of_key(key, FIRST_BY_BYTES).tell(page, &document),
         _ => false,
     }
 }

@@ -5,8 +5,9 @@ use super::super::kind::Kind;
 use super::super::outline::Spot;
 use super::super::texts::strikes_in;
 use super::wording::Wording;
-use sja_plan::{LAST_VERSION, PlanFault, most_bits, most_steps, most_strikes, most_turns};
-use sja_script::MOST_NODES;
+use sja_plan::{most_bits, most_steps, most_strikes, most_turns};
+use sja_plan_reading::{LAST_VERSION, PlanFault};
+use sja_steps::MOST_NODES;
 
 /// Which number is out of range, or which list is too long, in a document with this fault.
 pub(crate) fn of_count(document: &Document, fault: PlanFault) -> Wording<'static> {

@@ -2,7 +2,7 @@
 
 use super::super::outline::{Front, column_at, line_at};
 use super::super::page::{Page, Piece};
-use sja_plan::{MOST_BYTES, PlanFault, faulty_line, read_plan};
+use sja_plan_reading::{MOST_BYTES, PlanFault, faulty_line, read_plan};
 use std::alloc::{AllocError, Global};
 use toml::table_from_str;
 

@@ -2,7 +2,7 @@
 
 use super::super::lines::LINE_CHARACTERS;
 use super::piece::Piece;
-use sja_script::Refusal;
+use sja_steps::Refusal;
 use std::alloc::{AllocError, Global};
 
 /// How many characters of a value are shown at least, however long what stands about it is (this project's own rule).

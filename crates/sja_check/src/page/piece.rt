@@ -1,6 +1,6 @@
 //! [`Piece`]: what fills a gap of a template.
 
-use sja_script::Refusal;
+use sja_steps::Refusal;
 
 /// What fills a gap of a template.
 #[derive(Clone, Copy)]

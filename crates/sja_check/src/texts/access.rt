@@ -3,7 +3,8 @@
 use super::super::near::nearest_register;
 use super::super::page::{Page, Piece};
 use super::number::{number_in, wrong_digit};
-use sja_plan::{RAW_VERSION, REGISTERS, address_of, bit_names, value_of};
+use sja_plan::FIRST_BY_BYTES;
+use sja_plan_reading::{REGISTERS, address_of, bit_names, value_of};
 
 /// The address of CMR, which a `command` writes.
 const COMMAND: u8 = 1;
@@ -13,7 +14,7 @@ pub(crate) fn register_words<'a>(page: &mut Page, words: &'a [&'a str], place: u
     let Some(word) = words.get(place) else {
         return false;
     };
-    if address_of(usize::from(RAW_VERSION), word).is_ok() {
+    if address_of(usize::from(FIRST_BY_BYTES), word).is_ok() {
         return false;
     }
     let near = if word.starts_with(|c: char| c.is_ascii_alphabetic()) {
@@ -37,8 +38,8 @@ pub(crate) fn bits_words<'a>(page: &mut Page, words: &'a [&'a str], place: usize
         return false;
     };
     let before = words.get(place.wrapping_sub(1)).copied().unwrap_or("");
-    let register = address_of(usize::from(RAW_VERSION), before).unwrap_or(COMMAND);
-    if value_of(usize::from(RAW_VERSION), register, word).is_ok() {
+    let register = address_of(usize::from(FIRST_BY_BYTES), before).unwrap_or(COMMAND);
+    if value_of(usize::from(FIRST_BY_BYTES), register, word).is_ok() {
         return false;
     }
     let template = match bit_names(register) {

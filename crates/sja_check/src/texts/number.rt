@@ -3,7 +3,7 @@
 //! What is wrong with a word is a template, empty where nothing is, with the number that is meant. `argument_words`
 //! says what its gaps are.
 
-use sja_plan::{GREATEST_NUMBER, MOST_DIGITS, number_within};
+use sja_plan_reading::{GREATEST_NUMBER, MOST_DIGITS, number_within};
 
 /// The number that a word spells with one to seven decimal digits.
 pub(crate) fn number_in(word: &str) -> Option<u32> {

@@ -4,7 +4,7 @@ use super::super::page::{Page, Piece};
 use super::argument::Argument;
 use super::judge::{argument_words, behind, word_at};
 use super::number::number_in;
-use sja_plan::{GREATEST_NUMBER, place_of_word, place_of_words};
+use sja_plan_reading::{GREATEST_NUMBER, place_of_word, place_of_words};
 
 /// The forms of strikes of version 3, in words.
 const STRIKES_ARE: &str =

@@ -2,7 +2,7 @@
 
 use super::argument::Argument;
 use super::form::Form;
-use sja_plan::{MOST_RAW_BITS, RAW_VERSION};
+use sja_plan::{FIRST_BY_BYTES, MOST_BITS_BY_BYTES};
 
 /// What is said where something stands behind a step that stands alone.
 const ALONE: &str = "this step stands alone: <{0}>";
@@ -11,25 +11,25 @@ const ALONE: &str = "this step stands alone: <{0}>";
 pub(crate) static STEPS: [Form; 16] = [
     Form {
         name: "read",
-        since: RAW_VERSION,
+        since: FIRST_BY_BYTES,
         arguments: &[Argument::Register],
         usage: "the form is \"read ADDRESS\", a register's name or its number: \"read SR\"",
     },
     Form {
         name: "write",
-        since: RAW_VERSION,
+        since: FIRST_BY_BYTES,
         arguments: &[Argument::Register, Argument::Bits],
         usage: "the form is \"write ADDRESS VALUE\", by names or as bytes: \"write CMR TR\", \"write 1 01\"",
     },
     Form {
         name: "load",
-        since: RAW_VERSION,
+        since: FIRST_BY_BYTES,
         arguments: &[Argument::Frame],
         usage: "the form is \"load MESSAGE\", as \"load 123#1122\" or the bytes \"load 0224601122\"",
     },
     Form {
         name: "command",
-        since: RAW_VERSION,
+        since: FIRST_BY_BYTES,
         arguments: &[Argument::Bits],
         usage: "the form is \"command VALUE\", names of bits of CMR, or two digits: \"command TR\"",
     },
@@ -95,14 +95,14 @@ pub(crate) static STEPS: [Form; 16] = [
     },
     Form {
         name: "interrupt",
-        since: RAW_VERSION,
+        since: FIRST_BY_BYTES,
         arguments: &[],
         usage: ALONE,
     },
     Form {
         name: "at",
-        since: RAW_VERSION,
-        arguments: &[Argument::Number("B of \"at B\"", 0, MOST_RAW_BITS)],
+        since: FIRST_BY_BYTES,
+        arguments: &[Argument::Number("B of \"at B\"", 0, MOST_BITS_BY_BYTES)],
         usage: "the form is \"at B\", B bits from 0 to 2000000: \"at 500\"",
     },
 ];
@@ -165,7 +165,7 @@ pub(crate) fn begins_step(version: u8, word: &str) -> bool {
 pub(crate) fn known_of(version: u8, name: &str) -> &'static str {
     for row in &KNOWN {
         if row.0 == name {
-            return if version >= RAW_VERSION && row.1 == WAITING {
+            return if version >= FIRST_BY_BYTES && row.1 == WAITING {
                 WAITING_FOR_BITS
             } else {
                 row.1
@@ -177,13 +177,13 @@ pub(crate) fn known_of(version: u8, name: &str) -> &'static str {
 
 /// What steps of this version begin with.
 pub(crate) fn names_of(version: u8) -> &'static [&'static str] {
-    let count = if version < RAW_VERSION { 10 } else { 12 };
+    let count = if version < FIRST_BY_BYTES { 10 } else { 12 };
     NAMES.get(..count).unwrap_or(&[])
 }
 
 /// What steps of this version begin with, in words.
 pub(crate) fn steps_are(version: u8) -> &'static str {
-    if version < RAW_VERSION {
+    if version < FIRST_BY_BYTES {
         "steps are start, stop, window, release, read, write, load, command, await, sent"
     } else {
         "steps are start, stop, window, release, read, write, load, command, await, sent, interrupt, at"

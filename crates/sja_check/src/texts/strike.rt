@@ -5,7 +5,8 @@ use super::argument::Argument;
 use super::judge::{argument_words, behind, word_at};
 use super::number::number_in;
 use super::placed::{are_placed, placed_words};
-use sja_plan::{GREATEST_NUMBER, RAW_VERSION};
+use sja_plan::FIRST_BY_BYTES;
+use sja_plan_reading::GREATEST_NUMBER;
 use toml::Value;
 
 /// The forms of strikes, in words.
@@ -27,7 +28,7 @@ pub(crate) fn strike_words<'a>(
     nodes: usize,
     words: &'a [&'a str],
 ) -> bool {
-    if version == RAW_VERSION && are_placed(words) {
+    if version == FIRST_BY_BYTES && are_placed(words) {
         return placed_words(page, nodes, words);
     }
     let is_named = word_at(words, 0) == "node";

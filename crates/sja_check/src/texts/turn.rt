@@ -4,7 +4,8 @@ use super::argument::Argument;
 use super::form::Form;
 use super::number::number_in;
 use super::step::begins_step;
-use sja_plan::{GREATEST_NUMBER, RAW_VERSION};
+use sja_plan::FIRST_BY_BYTES;
+use sja_plan_reading::GREATEST_NUMBER;
 
 /// The forms of turns. Of two with one name the first one says what both are.
 pub(crate) static TURNS: [Form; 6] = [
@@ -59,7 +60,7 @@ static TYPED_NAMES: [&str; 3] = ["bus", "rest", "node"];
 
 /// What turns of a version begin with.
 pub(crate) fn names_of(version: u8) -> &'static [&'static str] {
-    if version < RAW_VERSION {
+    if version < FIRST_BY_BYTES {
         TYPED_NAMES.as_slice()
     } else {
         NAMES.as_slice()
@@ -68,7 +69,7 @@ pub(crate) fn names_of(version: u8) -> &'static [&'static str] {
 
 /// The forms of turns of a version, in words.
 pub(crate) fn turns_are(version: u8) -> &'static str {
-    if version < RAW_VERSION {
+    if version < FIRST_BY_BYTES {
         "turns are \"bus N\", N bits from 1; \"rest\"; and \"node K N\", N steps of node K"
     } else {
         "turns are \"go\", \"node K\", \"node K N\", \"irq K N\", \"bus N\" and \"rest\""

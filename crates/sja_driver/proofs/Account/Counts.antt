@@ -4,12 +4,12 @@ use Rattle.std.proofs.Common.{refl, sym, ap, ap₂, ◌∙◌, arith, inl, inr}
 use Rattle.std.specs.Prelude.{◌==◌, if◌then◌else◌}
 use Rattle.std.proofs.lemmas.Bool.{cases_eq, eq-eqb, ne_eqb}
 use Rattle.std.proofs.lemmas.List.{length-append, length-map}
-use Rattle.sja_link.specs.declared.entry.Entry.{Entry}
+use Rattle.sja_journal.specs.declared.entry.Entry.{Entry}
 use Rattle.lemmas.specs.Gathering.{gathered}
-use Rattle.sja_link.specs.Places.{JournalPlace, first_place, past, Placed, placed_from}
-use Rattle.sja_link.specs.Parts.{in_part}
-use Rattle.sja_link.specs.Carried.{taken_in, taken_of}
-use Rattle.sja_driver.specs.Deeds.{Deed, opens_by, given_in, section_from}
+use Rattle.sja_journal.specs.Places.{JournalPlace, first_place, past, Placed, placed_from}
+use Rattle.sja_journal.specs.Parts.{in_part}
+use Rattle.sja_journal.specs.Carried.{taken_in, taken_of}
+use Rattle.sja_driver.specs.TypedActs.{TypedAct, opens_by, given_in, section_from}
 use Rattle.sja_driver.specs.Timing.{Timed, timed, given_when, taken_when}
 
 -- ---- weights with labels
@@ -85,29 +85,29 @@ same_weight xs ys h =
 
 -- ---- what was given
 
-abbrev deed_weights : ℕ → List Deed → List Weighed
-deed_weights n [] = []
-deed_weights n (d ∷ ds) = (record { label = n + opens_by d; weight = length d.gave }) ∷ deed_weights (n + opens_by d) ds
+abbrev act_weights : ℕ → List TypedAct → List Weighed
+act_weights n [] = []
+act_weights n (d ∷ ds) = (record { label = n + opens_by d; weight = length d.gave }) ∷ act_weights (n + opens_by d) ds
 
-deeds_weigh : (n : ℕ) (ds : List Deed) → weight_of (deed_weights n ds) ≡ length (given_in ds)
-deeds_weigh n [] = refl
-deeds_weigh n (d ∷ ds) = ap (λ m. length d.gave + m) (deeds_weigh (n + opens_by d) ds)
+acts_weigh : (n : ℕ) (ds : List TypedAct) → weight_of (act_weights n ds) ≡ length (given_in ds)
+acts_weigh n [] = refl
+acts_weigh n (d ∷ ds) = ap (λ m. length d.gave + m) (acts_weigh (n + opens_by d) ds)
     ∙ sym (length-append d.gave (given_in ds))
 
-abbrev deed_times : Deed → List Timed
-deed_times d = map (timed d.bits) d.gave
+abbrev act_times : TypedAct → List Timed
+act_times d = map (timed d.bits) d.gave
 
-deeds_label : (n : ℕ) (ds : List Deed) (a : ℕ) →
-    at_label (deed_weights n ds) a ≡ length (gathered deed_times (section_from opens_by n ds a))
-deeds_label n [] a = refl
-deeds_label n (d ∷ ds) a = one (deeds_label (n + opens_by d) ds a) ((n + opens_by d) == a)
+acts_label : (n : ℕ) (ds : List TypedAct) (a : ℕ) →
+    at_label (act_weights n ds) a ≡ length (gathered act_times (section_from opens_by n ds a))
+acts_label n [] a = refl
+acts_label n (d ∷ ds) a = one (acts_label (n + opens_by d) ds a) ((n + opens_by d) == a)
   where
-    one : at_label (deed_weights (n + opens_by d) ds) a ≡ length
-        (gathered deed_times (section_from opens_by (n + opens_by d) ds a)) → (b : Bool) →
-        (if b then length d.gave else 0) + at_label (deed_weights (n + opens_by d) ds) a
-        ≡ length (gathered deed_times ((if b then d ∷ [] else []) ++ section_from opens_by (n + opens_by d) ds a))
+    one : at_label (act_weights (n + opens_by d) ds) a ≡ length
+        (gathered act_times (section_from opens_by (n + opens_by d) ds a)) → (b : Bool) →
+        (if b then length d.gave else 0) + at_label (act_weights (n + opens_by d) ds) a
+        ≡ length (gathered act_times ((if b then d ∷ [] else []) ++ section_from opens_by (n + opens_by d) ds a))
     one r true =
-        let both = length-append (deed_times d) (gathered deed_times (section_from opens_by (n + opens_by d) ds a)) in
+        let both = length-append (act_times d) (gathered act_times (section_from opens_by (n + opens_by d) ds a)) in
         let many = length-map d.gave (timed d.bits) in omega (arith, both, many, r)
     one r false = omega (arith, r)
 
@@ -144,10 +144,10 @@ entries_label p (e ∷ es) a = one (entries_label (past p e) es a) ((past p e).a
 
 -- ---- both
 
-pub as_many : (deeds : List Deed) (j : List Entry) → ((a : ℕ) → given_when deeds a ≡ taken_when j a) →
-    length (taken_of j) ≡ length (given_in deeds)
-as_many deeds j h =
+pub as_many : (acts : List TypedAct) (j : List Entry) → ((a : ℕ) → given_when acts a ≡ taken_when j a) →
+    length (taken_of j) ≡ length (given_in acts)
+as_many acts j h =
     sym (entries_weigh first_place j)
-    ∙ sym (same_weight (deed_weights 0 deeds) (entry_weights first_place j)
-    (λ a. deeds_label 0 deeds a ∙ ap (λ l. length l) (h a) ∙ sym (entries_label first_place j a)))
-    ∙ deeds_weigh 0 deeds
+    ∙ sym (same_weight (act_weights 0 acts) (entry_weights first_place j)
+    (λ a. acts_label 0 acts a ∙ ap (λ l. length l) (h a) ∙ sym (entries_label first_place j a)))
+    ∙ acts_weigh 0 acts

@@ -1,14 +1,14 @@
 -- Where all that was given was taken, nothing is taken.
 use Rattle.std.proofs.Common.{◌≡◌, ℕ, suc, List, [], ◌++◌, sym, ap, ◌∙◌, append_assoc, append-nil}
 use Rattle.std.proofs.lemmas.List.{append_cancel_left}
-use Rattle.sja_link.specs.declared.up.Up.{Up}
-use Rattle.sja_link.specs.declared.entry.Entry.{Entry}
-use Rattle.sja_link.specs.Parts.{part}
-use Rattle.sja_link.specs.Carried.{taken_of}
-use Rattle.sja_link.specs.BitEntries.{entries_of_items, MayHaveItems}
+use Rattle.sja_journal.specs.declared.up.Up.{Up}
+use Rattle.sja_journal.specs.declared.entry.Entry.{Entry}
+use Rattle.sja_journal.specs.Parts.{part}
+use Rattle.sja_journal.specs.Carried.{taken_of}
+use Rattle.sja_journal.specs.BitEntries.{entries_of_items, MayHaveItems}
 use Rattle.sja_driver.proofs.Account.Own.{AreOwn, own_taken}
 use Rattle.lemmas.proofs.Lists.{none_front}
-use Rattle.sja_link.proofs.Growing.Taking.{adds, taken_adds, no_adds}
+use Rattle.sja_journal.proofs.Growing.Taking.{adds, taken_adds, no_adds}
 
 -- what each activation has of these items, and what follows
 module _ (j t : List Entry) (items : MayHaveItems j t) (given : ℕ → List Up)

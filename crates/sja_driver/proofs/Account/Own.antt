@@ -1,16 +1,16 @@
 -- Entries that the bus makes of its own accord, and not since an item was taken.
 use Rattle.std.proofs.Common.{◌≡◌, ℕ, ◌<◌, List, [], ◌∷◌, ◌++◌, map, refl, sym, ap, ◌∙◌, subst, append_assoc}
 use Rattle.std.proofs.Common.{append-nil, arith}
-use Rattle.sja_link.specs.declared.entry.Entry.{Entry}
-use Rattle.sja_link.specs.declared.entry.Entry.TheVariants.{Bit, Up as Item, Abort, Stored, Overrun, Off}
+use Rattle.sja_journal.specs.declared.entry.Entry.{Entry}
+use Rattle.sja_journal.specs.declared.entry.Entry.TheVariants.{Bit, Up as Item, Abort, Stored, Overrun, Off}
 use Rattle.lemmas.specs.Gathering.{total}
-use Rattle.sja_link.specs.Places.{JournalPlace, past, place_of}
-use Rattle.sja_link.specs.Parts.{part}
-use Rattle.sja_link.specs.Carried.{taken_in, taken_of}
+use Rattle.sja_journal.specs.Places.{JournalPlace, past, place_of}
+use Rattle.sja_journal.specs.Parts.{part}
+use Rattle.sja_journal.specs.Carried.{taken_in, taken_of}
 use Rattle.sja_link.specs.World.{is_send}
-use Rattle.sja_link.proofs.JournalEntries.Entering.{place_push, past_rises, of_part_none, part_here}
+use Rattle.sja_journal.proofs.JournalEntries.Entering.{place_push, past_rises, of_part_none, part_here}
 use Rattle.lemmas.proofs.Gathered.{total_push}
-use Rattle.sja_link.specs.Links.{stops_in, stops_of}
+use Rattle.sja_journal.specs.Links.{stops_in, stops_of}
 use Rattle.sja_driver.specs.Aborting.{sends_taken}
 use Rattle.sja_driver.specs.Timing.{taken_when, timed}
 use Rattle.sja_driver.specs.Windows.{put_by}

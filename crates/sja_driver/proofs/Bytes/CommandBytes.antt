@@ -8,7 +8,7 @@ use Rattle.sja_regs.specs.declared.registers.Registers.{Registers}
 use Rattle.sja_regs.specs.Commands.{command_of, command_faults}
 use Rattle.sja_regs.specs.Refusals.{first_fault}
 use Rattle.sja_regs.specs.Writing.{is_first_version}
-use Rattle.sja_driver.specs.CommandWrites.{command_byte, doable}
+use Rattle.sja_driver.specs.CommandWrites.{command_byte, permitted_part}
 
 back_of : (tr at rrb cdo srr : Bool) →
     command_of (command_byte (record { tr = tr; at = at; rrb = rrb; cdo = cdo; srr = srr }))
@@ -79,6 +79,6 @@ none_holds false true true false false false e = refl
 
 -- out of reset mode a port refuses nothing that can be done
 pub none_refused : (p : Registers) (c : Command) → p.mode.rm ≡ false →
-    first_fault (command_faults p (command_of (command_byte (doable p c)))) ≡ None
-none_refused p c rm = ap (λ (d : Command). first_fault (command_faults p d)) (command_back (doable p c))
+    first_fault (command_faults p (command_of (command_byte (permitted_part p c)))) ≡ None
+none_refused p c rm = ap (λ (d : Command). first_fault (command_faults p d)) (command_back (permitted_part p c))
     ∙ none_holds p.mode.rm c.tr c.srr (is_first_version p) p.mode.lom p.tbs rm

@@ -1,4 +1,4 @@
--- A write is three deeds at most.
+-- A write is three acts at most.
 use Rattle.std.proofs.Common.{◌≤◌, ◌++◌, ℕ, Bool, true, false, cond, [], ◌∷◌, length, arith}
 use Rattle.std.proofs.lemmas.List.{length-append}
 use Rattle.std.specs.Prelude.{◌==◌, ◌||◌}
@@ -8,9 +8,9 @@ use Rattle.sja_regs.specs.Commands.{command_of}
 use Rattle.sja_regs.specs.Modes.{mode_of}
 use Rattle.sja_regs.specs.Registers.{is_forced}
 use Rattle.sja_regs.specs.Writing.{is_other_mode}
-use Rattle.sja_script.specs.declared.step.Step.{Step}
-use Rattle.sja_script.specs.declared.step.Step.TheVariants.{Start, Stop, Release, Write, Command}
-use Rattle.sja_driver.specs.CommandWrites.{command_byte, commands, command_steps, doable, releases}
+use Rattle.sja_steps.specs.declared.step.Step.{Step}
+use Rattle.sja_steps.specs.declared.step.Step.TheVariants.{Start, Stop, Release, Write, Command}
+use Rattle.sja_driver.specs.CommandWrites.{command_byte, commands, command_steps, permitted_part, releases}
 use Rattle.sja_driver.specs.ModeWrites.{closing, leaving, mode_steps, reset_byte, taking}
 use Rattle.sja_driver.specs.Writes.{write_steps}
 
@@ -47,7 +47,7 @@ few_command : (p : Registers) (value : ℕ) → length (command_steps p (command
 few_command p value = by p.mode.rm
   where
     byte : ℕ
-    byte = command_byte (doable p (command_of value))
+    byte = command_byte (permitted_part p (command_of value))
 
     by : (rm : Bool) → length (cond rm [] (commands byte ++ releases (command_of value).rrb)) ≤ 3
     by true = omega arith

@@ -5,7 +5,7 @@ use Rattle.std.proofs.lemmas.Bool.{ne_eqb}
 use Rattle.sja_regs.specs.declared.registers.Registers.{Registers}
 use Rattle.sja_regs.specs.Commands.{command_of}
 use Rattle.sja_regs.specs.Registers.{is_forced}
-use Rattle.sja_script.specs.declared.step.Step.TheVariants.{Write}
+use Rattle.sja_steps.specs.declared.step.Step.TheVariants.{Write}
 use Rattle.sja_driver.specs.CommandWrites.{command_steps}
 use Rattle.sja_driver.specs.ModeWrites.{mode_steps}
 use Rattle.sja_driver.specs.Writes.{write_steps}

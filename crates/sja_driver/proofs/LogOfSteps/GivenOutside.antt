@@ -6,23 +6,24 @@ use Rattle.std.proofs.lemmas.Bool.{ne_eqb}
 use Rattle.lemmas.specs.Gathering.{total}
 use Rattle.lemmas.specs.Picking.{EachAfter}
 use Rattle.lemmas.proofs.Gathered.{gathered_append}
-use Rattle.sja_script.specs.declared.step.Step.{Step}
-use Rattle.sja_driver.specs.Deeds.{Deed, opens_by, opened_by, active_after, is_active, FitsState, Gives, given_in}
-use Rattle.sja_driver.specs.Deeds.{section_from, deeds_of, AreDeeds}
+use Rattle.sja_steps.specs.declared.step.Step.{Step}
+use Rattle.sja_driver.specs.TypedActs.{TypedAct, opens_by, opened_by, active_after, is_active, FitsState, Gives}
+use Rattle.sja_driver.specs.TypedActs.{given_in}
+use Rattle.sja_driver.specs.TypedActs.{section_from, acts_of, AreActs}
 use Rattle.sja_driver.proofs.LogOfSteps.Sections.{active_push, opened_push}
 use Rattle.sja_driver.proofs.Step.GivenKinds.{Kind, kind_of}
 use Rattle.sja_driver.proofs.Step.GivenKinds.Kind.{quiet, starts, credits, sends, stops}
-use Rattle.sja_link.proofs.Ledger.Small.{neither}
+use Rattle.sja_journal.proofs.Ledger.Small.{neither}
 
--- an activation that was opened before, or one that isn't opened, has no more deeds
-section_past : (n : ℕ) (ds : List Deed) (a : ℕ) → a < n → section_from opens_by n ds a ≡ []
+-- an activation that was opened before, or one that isn't opened, has no more acts
+section_past : (n : ℕ) (ds : List TypedAct) (a : ℕ) → a < n → section_from opens_by n ds a ≡ []
 section_past n [] a less = refl
 section_past n (d ∷ ds) a less =
     ap (λ b. cond b (d ∷ []) [] ++ section_from opens_by (n + opens_by d) ds a)
     (ne_eqb (n + opens_by d) a (λ e. omega (arith, less, e)))
     ∙ section_past (n + opens_by d) ds a (omega (arith, less))
 
-section_later : (n : ℕ) (ds : List Deed) (a : ℕ) → n + total opens_by ds < a → section_from opens_by n ds a ≡ []
+section_later : (n : ℕ) (ds : List TypedAct) (a : ℕ) → n + total opens_by ds < a → section_from opens_by n ds a ≡ []
 section_later n [] a less = refl
 section_later n (d ∷ ds) a less =
     ap (λ b. cond b (d ∷ []) [] ++ section_from opens_by (n + opens_by d) ds a)
@@ -30,9 +31,9 @@ section_later n (d ∷ ds) a less =
     ∙ section_later (n + opens_by d) ds a (omega (arith, less))
 
 -- before it starts a driver is in reset, where it gives nothing
-none_first : (version : ℕ) (before ds : List Deed) → is_active before ≡ false → opened_by before ≡ 0 →
-    EachAfter (λ b (d : Deed). FitsState version (is_active b) (opened_by b) d.step d.answer) before ds →
-    EachAfter (λ b (d : Deed). Gives d.step d.answer d.gave) before ds →
+none_first : (version : ℕ) (before ds : List TypedAct) → is_active before ≡ false → opened_by before ≡ 0 →
+    EachAfter (λ b (d : TypedAct). FitsState version (is_active b) (opened_by b) d.step d.answer) before ds →
+    EachAfter (λ b (d : TypedAct). Gives d.step d.answer d.gave) before ds →
     given_in (section_from opens_by 0 ds 0) ≡ []
 none_first version before [] out none fits gives = refl
 none_first version before (d ∷ ds) out none fits gives =
@@ -51,7 +52,7 @@ none_first version before (d ∷ ds) out none fits gives =
         given_in (section_from opens_by 0 ds 0) ≡ []) → given_in (section_from opens_by 0 (d ∷ ds) 0) ≡ []
     by_kind (quiet nothing closed same) later =
         let m : 0 + opens_by d ≡ 0 = omega (arith, closed) in
-        gathered_append (λ (x : Deed). x.gave) (if (0 + opens_by d) == 0 then d ∷ [] else [])
+        gathered_append (λ (x : TypedAct). x.gave) (if (0 + opens_by d) == 0 then d ∷ [] else [])
         (section_from opens_by (0 + opens_by d) ds 0)
         ∙ ap₂ (λ x y. x ++ y) (here nothing ((0 + opens_by d) == 0))
         (ap (λ n. given_in (section_from opens_by n ds 0)) m ∙ later closed same)
@@ -63,8 +64,8 @@ none_first version before (d ∷ ds) out none fits gives =
     by_kind (sends was request is closed same) later = absurd (neither (is_active before) was out)
     by_kind (stops was is closed same) later = absurd (neither (is_active before) was out)
 
-pub given_outside : {version : ℕ} (steps : List Step) (deeds : List Deed) (a : ℕ) → AreDeeds version steps deeds →
-    (a ≡ 0) ⊎ (opened_by deeds < a) → given_in (deeds_of deeds a) ≡ []
-given_outside {version} steps deeds a are (inl e) =
-    ap (λ n. given_in (deeds_of deeds n)) e ∙ none_first version [] deeds refl refl are.states are.gives
-given_outside steps deeds a are (inr late) = ap given_in (section_later 0 deeds a (omega (arith, late)))
+pub given_outside : {version : ℕ} (steps : List Step) (acts : List TypedAct) (a : ℕ) → AreActs version steps acts →
+    (a ≡ 0) ⊎ (opened_by acts < a) → given_in (acts_of acts a) ≡ []
+given_outside {version} steps acts a are (inl e) =
+    ap (λ n. given_in (acts_of acts n)) e ∙ none_first version [] acts refl refl are.states are.gives
+given_outside steps acts a are (inr late) = ap given_in (section_later 0 acts a (omega (arith, late)))

@@ -1,35 +1,36 @@
--- A deed more: what the links of a node hold.
+-- An act more: what the links of a node hold.
 use Rattle.std.proofs.Common.{◌≡◌, ◌+◌, ℕ, suc, Bool, cond, List, [], ◌∷◌, ◌++◌, refl, sym, ap, ◌∙◌}
 use Rattle.std.proofs.Common.{subst, append_assoc, arith, inl, inr}
 use Rattle.std.specs.Prelude.{slice_index_or, false, ◌⊎◌, ◌==◌, if◌then◌else◌}
 use Rattle.std.proofs.lemmas.Bool.{cases_eq, eq-eqb, ne_eqb}
-use Rattle.sja_link.specs.declared.down.Down.{Down}
-use Rattle.sja_link.specs.declared.up.Up.{Up}
-use Rattle.sja_link.specs.declared.entry.Entry.{Entry}
-use Rattle.sja_link.specs.Accounts.{account}
-use Rattle.sja_link.specs.Lists.{Lists, messages, on, OthersStand}
+use Rattle.sja_journal.specs.declared.down.Down.{Down}
+use Rattle.sja_journal.specs.declared.up.Up.{Up}
+use Rattle.sja_journal.specs.declared.entry.Entry.{Entry}
+use Rattle.sja_journal.specs.Accounts.{account}
+use Rattle.sja_journal.specs.Lists.{Lists, messages, on, OthersStand}
 use Rattle.sja_link.specs.Looking.{off_among}
 use Rattle.sja_link.proofs.Ledger.Pullings.{off_both}
 use Rattle.sja_link.proofs.JournalEntries.ListCounts.{messages_both}
 use Rattle.sja_driver.specs.declared.release.Release.{Release}
 use Rattle.sja_driver.specs.Acting.{Does}
-use Rattle.sja_driver.specs.Deeds.{Deed, opens_by, opened_by, given_in, deeds_of}
+use Rattle.sja_driver.specs.TypedActs.{TypedAct, opens_by, opened_by, given_in, acts_of}
 use Rattle.sja_driver.specs.Holding.{Holds}
 use Rattle.sja_driver.specs.Logs.{released_of}
-use Rattle.sja_driver.proofs.LogOfSteps.Sections.{deeds_here, deeds_else}
+use Rattle.sja_driver.proofs.LogOfSteps.Sections.{acts_here, acts_else}
 
-abbrev pub gave_of : Deed → List Up
+abbrev pub gave_of : TypedAct → List Up
 gave_of d = d.gave
 
-other : (d : Deed) (n a : ℕ) (t : List Deed) → (n ≡ a → ⊥) → (opened_by t + opens_by d ≡ suc n) ⊎ (d.gave ≡ []) →
+other : (d : TypedAct) (n a : ℕ) (t : List TypedAct) → (n ≡ a → ⊥) → (opened_by t + opens_by d ≡ suc n) ⊎
+    (d.gave ≡ []) →
     ((opened_by t + opens_by d ≡ suc a) → ⊥) ⊎ (d.gave ≡ [])
 other d n a t ne (inl e) = inl (λ q. ne (omega (arith, e, q)))
 other d n a t ne (inr q) = inr q
 
--- one deed more at the link of the present activation, of whose number so many ended before, and more after
-pub holds_deed : {E : Type 0} (stands : E → ℕ → Lists → Type 0) (t : List Deed) (rel rel' : List Release)
+-- one act more at the link of the present activation, of whose number so many ended before, and more after
+pub holds_act : {E : Type 0} (stands : E → ℕ → Lists → Type 0) (t : List TypedAct) (rel rel' : List Release)
     (left left' : List (List (List ℕ))) (j : List Entry) (n n' : ℕ) (old new : E)
-    (held held' : List (List ℕ)) (off off' now' : Bool) (d : Deed) (released : List (List ℕ))
+    (held held' : List (List ℕ)) (off off' now' : Bool) (d : TypedAct) (released : List (List ℕ))
     → (opened_by t + opens_by d ≡ suc n) ⊎ (d.gave ≡ [])
     → Does (on stands (suc n)) old new held held' off now' released d.gave
     → OthersStand stands (suc n) old new
@@ -40,17 +41,17 @@ pub holds_deed : {E : Type 0} (stands : E → ℕ → Lists → Type 0) (t : Lis
     → ((n' ≡ n) × (off' ≡ now')) ⊎ ((n' ≡ suc n) × (off' ≡ false))
     → Holds stands t rel left n off j old
     → Holds stands (t ++ d ∷ []) rel' left' n' off' j new
-holds_deed stands t rel rel' left left' j n n' old new held held' off off' now' d released gi did others r re was now
+holds_act stands t rel rel' left left' j n n' old new held held' off off' now' d released gi did others r re was now
     rest next h =
-    let given' : ℕ → List Up = λ a. given_in (deeds_of (t ++ d ∷ []) a) in
+    let given' : ℕ → List Up = λ a. given_in (acts_of (t ++ d ∷ []) a) in
     let got' : ℕ → List Down = λ a. if n == a then h.got a ++ did.got else h.got a in
     let lists' : ℕ → Lists = λ a. account j (suc a) (record { got = got' a; given = given' (suc a) }) in
     let same : got' n ≡ h.got n ++ did.got = ap (λ b. cond b (h.got n ++ did.got) (h.got n)) (eq-eqb n n refl) in
     let else' : (a : ℕ) → (n ≡ a → ⊥) → got' a ≡ h.got a =
     λ a ne. ap (λ b. cond b (h.got a ++ did.got) (h.got a)) (ne_eqb n a ne) in
-    let g : given' (suc n) ≡ given_in (deeds_of t (suc n)) ++ d.gave = deeds_here gave_of t d (suc n) gi in
+    let g : given' (suc n) ≡ given_in (acts_of t (suc n)) ++ d.gave = acts_here gave_of t d (suc n) gi in
     let here : stands new (suc n) (lists' n) =
-    rw (same, g) (did.lists (account j (suc n) (record { got = h.got n; given = given_in (deeds_of t (suc n)) }))
+    rw (same, g) (did.lists (account j (suc n) (record { got = h.got n; given = given_in (acts_of t (suc n)) }))
     (h.kept n)) in
     let all : messages (got' n) ≡ released_of rel' (suc n) ++ slice_index_or left' n [] =
     ap messages same ∙ messages_both (h.got n) did.got ∙ ap (λ x. x ++ messages did.got) (h.told n)
@@ -65,8 +66,8 @@ holds_deed stands t rel rel' left left' j n n' old new held held' off off' now' 
       kept = λ a. elim (cases_eq n a) [
         | inl q ↦ subst (λ (m : ℕ). stands new (suc m) (lists' m)) q here
         | inr ne ↦ let gs : got' a ≡ h.got a = else' a ne in
-            let ga : given' (suc a) ≡ given_in (deeds_of t (suc a)) =
-            deeds_else gave_of t d (suc a) (other d n a t ne gi) in
+            let ga : given' (suc a) ≡ given_in (acts_of t (suc a)) =
+            acts_else gave_of t d (suc a) (other d n a t ne gi) in
             rw (gs, ga) (others (suc a) (λ x. ne (omega (arith, x))) _ (h.kept a))
       ];
       told = λ a. elim (cases_eq n a) [

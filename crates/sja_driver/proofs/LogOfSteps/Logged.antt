@@ -2,17 +2,17 @@
 use Rattle.std.proofs.Common.{◌≡◌, ◌+◌, ◌≤◌, ℕ, ◌++◌, length, refl, sym, ap, ◌∙◌, subst, arith}
 use Rattle.std.proofs.lemmas.List.{length-append}
 use Rattle.std.specs.Prelude.{Bool, Option, None}
-use Rattle.sja_link.specs.Lists.{Lists, OthersStand}
-use Rattle.sja_link.specs.Sizes.{most_activations}
+use Rattle.sja_journal.specs.Lists.{Lists, OthersStand}
+use Rattle.sja_journal.specs.Sizes.{most_activations}
 use Rattle.sja_regs.specs.declared.registers.Registers.{Registers}
-use Rattle.sja_script.specs.declared.step.Step.{Step}
-use Rattle.sja_script.specs.declared.step_answer.StepAnswer.{StepAnswer}
+use Rattle.sja_steps.specs.declared.step.Step.{Step}
+use Rattle.sja_steps.specs.declared.step_answer.StepAnswer.{StepAnswer}
 use Rattle.sja_driver.specs.declared.any_driver.AnyDriver.{AnyDriver}
 use Rattle.sja_driver.specs.declared.logged_driver.LoggedDriver.{LoggedDriver}
 use Rattle.sja_driver.specs.declared.work_log.WorkLog.{WorkLog}
 use Rattle.sja_driver.specs.Acting.{ActsOn}
 use Rattle.sja_driver.specs.AnyDrivers.{IsDriverOf, is_out, link_used, opened_of}
-use Rattle.sja_driver.specs.Deeds.{FitsState, opened}
+use Rattle.sja_driver.specs.TypedActs.{FitsState, opened}
 use Rattle.sja_driver.specs.LoggedDrivers.{node_of, driver_of, log_of, kept_of, ended_of, IsLawful}
 use Rattle.sja_driver.specs.LoggedDrivers.{StaysLawful, Steps}
 use Rattle.sja_driver.specs.Inside.Entering.{Enters}

@@ -1,11 +1,11 @@
--- A look at the present link: log and links go on with no deed.
+-- A look at the present link: log and links go on with no act.
 use Rattle.std.proofs.Common.{◌≡◌, ◌+◌, ℕ, List, [], length, refl, sym, ap, ◌∙◌, subst, append-nil, arith}
 use Rattle.std.specs.Prelude.{false, None}
 use Rattle.sja_link.specs.declared.link_id.LinkId.{LinkId}
-use Rattle.sja_link.specs.Lists.{Lists, on, OthersStand}
+use Rattle.sja_journal.specs.Lists.{Lists, on, OthersStand}
 use Rattle.sja_regs.specs.declared.registers.Registers.{Registers}
 use Rattle.sja_regs.specs.Registers.{at_power_on}
-use Rattle.sja_script.specs.declared.step.Step.TheVariants.{Sent}
+use Rattle.sja_steps.specs.declared.step.Step.TheVariants.{Sent}
 use Rattle.sja_driver.specs.declared.active.Active.{Active}
 use Rattle.sja_driver.specs.declared.any_driver.AnyDriver.{AnyDriver}
 use Rattle.sja_driver.specs.declared.any_driver.AnyDriver.TheVariants.{InReset, InActive}
@@ -15,7 +15,7 @@ use Rattle.sja_driver.specs.declared.work_log.WorkLog.{WorkLog}
 use Rattle.sja_driver.specs.Acting.{ActsOn}
 use Rattle.sja_driver.specs.AnyDrivers.{IsDriverOf, link_used}
 use Rattle.sja_driver.specs.Calls.{TakesIn}
-use Rattle.sja_driver.specs.Deeds.{Deed}
+use Rattle.sja_driver.specs.TypedActs.{TypedAct}
 use Rattle.sja_driver.specs.Drivers.{activation_in, held_in, off_in}
 use Rattle.sja_driver.specs.Holding.{Goes, HoldsBy}
 use Rattle.sja_driver.specs.Logs.{Traces, left_in}
@@ -51,12 +51,12 @@ waits_as version stands dry old new was now t others = record {
   quiet = tt;
 }
 
--- with no deed more nothing changes
+-- with no act more nothing changes
 goes_still : {E : Type 0} (version : ℕ) (stands : E → ℕ → Lists → Type 0) (was : AnyDriver) (log : WorkLog) (end : E) →
     Goes stands version was was log log end end []
 goes_still version stands was log end = record {
-  traces = λ t h. subst (λ (ds : List Deed). Traces version was log ds) (sym (append-nil t)) h;
-  holds = λ t j h k. subst (λ (ds : List Deed). HoldsBy stands ds was log j end) (sym (append-nil t)) k;
+  traces = λ t h. subst (λ (ds : List TypedAct). Traces version was log ds) (sym (append-nil t)) h;
+  holds = λ t j h k. subst (λ (ds : List TypedAct). HoldsBy stands ds was log j end) (sym (append-nil t)) k;
 }
 
 goes_look : {E : Type 0} (version : ℕ) (stands : E → ℕ → Lists → Type 0) (dry : E → ℕ → Type 0) (was now : AnyDriver)

@@ -4,22 +4,15 @@ use Rattle.std.proofs.Common.{add-zero}
 use Rattle.sja_link.specs.declared.link_id.LinkId.{LinkId}
 use Rattle.sja_link.specs.declared.driver_ledger.DriverLedger.{DriverLedger}
 use Rattle.sja_regs.specs.declared.registers.Registers.{Registers}
-use Rattle.sja_script.specs.declared.step.Step.{Step}
+use Rattle.sja_steps.specs.declared.step.Step.{Step}
 use Rattle.sja_driver.specs.declared.any_driver.AnyDriver.{AnyDriver}
 use Rattle.sja_driver.specs.declared.any_driver.AnyDriver.TheVariants.{InReset, InActive}
 use Rattle.sja_driver.specs.AnyDrivers.{IsDriverOf, link_used, opened_of}
 use Rattle.sja_driver.specs.Drivers.{started_in, link_in}
-use Rattle.sja_driver.specs.Inside.Attempts.{FitsEnd}
 use Rattle.sja_driver.specs.Inside.Entering.{IsAmong}
 use Rattle.sja_driver.specs.Logs.{left_by}
 use Rattle.sja_driver.specs.Tries.{Tried, ended_by, opened_after, IsQuiet}
 use Rattle.sja_driver.specs.Tries.Tried.{Unmet, Answered, Released, Ended}
-
--- the end of its node fits a driver
-pub fits_end : {E : Type 0} (node_at : E → ℕ) (e : E) (node n : ℕ) (driver : AnyDriver) → IsDriverOf node n driver →
-    node_at e ≡ node → FitsEnd node_at e driver
-fits_end node_at e node n (InReset d) h own = own ∙ sym h.0
-fits_end node_at e node n (InActive d) h own = own ∙ sym (ap (λ (l : LinkId). l.node) h)
 
 next_of : (a n : ℕ) → a ≡ n → a + 1 ≡ suc n
 next_of a n e = omega (arith, e)

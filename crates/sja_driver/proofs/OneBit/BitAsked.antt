@@ -4,41 +4,41 @@ use Rattle.std.proofs.Common.{inl, inr, refl, sym, ap, ◌∙◌, subst, append-
 use Rattle.std.specs.Prelude.{◌||◌, ◌&&◌, ◌==◌, nat_le, if◌then◌else◌}
 use Rattle.std.proofs.lemmas.Bool.{eq-eqb}
 use Rattle.std.proofs.lemmas.List.{append_cancel_left}
-use Rattle.can_bits.specs.declared.level.Level.{Level}
-use Rattle.can_node.specs.declared.bit_events.BitEvents.{BitEvents}
-use Rattle.can_node.specs.Bits.{Bit as Levels}
-use Rattle.can_node.specs.Context.{ContextValue, is_held}
-use Rattle.can_node.specs.Pieces.{Place}
-use Rattle.can_node.specs.Record.RecordEntry.{OneBit as Took}
-use Rattle.can_node.specs.Effects.{is_in_progress, with_abort}
-use Rattle.can_node.specs.Events.{stepped, ended_in}
-use Rattle.can_node.specs.FinishedPieces.{FinishedPiece, counted, none_yet}
-use Rattle.can_node.specs.Cut.{IsCut}
-use Rattle.can_node.specs.NextBit.{now_in, open_bits}
-use Rattle.can_node.specs.Stands.{closed_by}
-use Rattle.can_node.proofs.OneCut.CutOnce.{cut_once}
-use Rattle.sja_link.specs.declared.verdict.Verdict.{Verdict}
-use Rattle.sja_link.specs.declared.verdict.Verdict.TheVariants.{Stored as ToStore, Overrun as ToLose}
-use Rattle.sja_link.specs.declared.entry.Entry.{Entry}
-use Rattle.sja_link.specs.declared.entry.Entry.TheVariants.{Bit, Abort, Stored, Overrun, Off}
-use Rattle.sja_link.specs.Places.{JournalPlace as Point, past, place_of}
-use Rattle.sja_link.specs.Records.{record_of}
-use Rattle.sja_link.proofs.JournalEntries.Entering.{record_push, place_push}
+use Rattle.can_levels.specs.declared.level.Level.{Level}
+use Rattle.can_node_rules.specs.declared.bit_events.BitEvents.{BitEvents}
+use Rattle.can_node_rules.specs.Bits.{Bit as Levels}
+use Rattle.can_node_rules.specs.Context.{ContextValue, is_held}
+use Rattle.can_node_rules.specs.Pieces.{Place}
+use Rattle.can_node_rules.specs.Record.RecordEntry.{OneBit as Took}
+use Rattle.can_node_rules.specs.Effects.{is_in_progress, with_abort}
+use Rattle.can_node_rules.specs.Events.{stepped, ended_in}
+use Rattle.can_node_rules.specs.FinishedPieces.{FinishedPiece, counted, none_yet}
+use Rattle.can_node_rules.specs.Cut.{IsCut}
+use Rattle.can_node_rules.specs.NextBit.{now_in, open_bits}
+use Rattle.can_node_rules.specs.Outcomes.{closed_by}
+use Rattle.can_node_rules.proofs.OneCut.CutOnce.{cut_once}
+use Rattle.sja_journal.specs.declared.verdict.Verdict.{Verdict}
+use Rattle.sja_journal.specs.declared.verdict.Verdict.TheVariants.{Stored as ToStore, Overrun as ToLose}
+use Rattle.sja_journal.specs.declared.entry.Entry.{Entry}
+use Rattle.sja_journal.specs.declared.entry.Entry.TheVariants.{Bit, Abort, Stored, Overrun, Off}
+use Rattle.sja_journal.specs.Places.{JournalPlace as Point, past, place_of}
+use Rattle.sja_journal.specs.Records.{record_of}
+use Rattle.sja_journal.proofs.JournalEntries.Entering.{record_push, place_push}
 use Rattle.sja_regs.specs.declared.bus_turn.BusTurn.{BusTurn}
 use Rattle.sja_regs.specs.declared.orders.Orders.{Orders}
 use Rattle.sja_regs.specs.declared.registers.Registers.{Registers}
 use Rattle.sja_driver.proofs.Registers.TbsAndAbort.{TbsIsRight}
 use Rattle.sja_regs.specs.Turns.{is_live, after_turn}
-use Rattle.sja_wire.specs.Buses.{IsNodeBit}
-use Rattle.sja_link.specs.BitEntries.{HasBit, abort_as, judged_as, off_as}
-use Rattle.sja_link.specs.Inside.Entries.{off_left}
-use Rattle.sja_wire.specs.Telling.{IsTurn}
-use Rattle.sja_link.proofs.Growing.BitRecords.{record_bit}
+use Rattle.sja_bus_rules.specs.Buses.{IsNodeBit}
+use Rattle.sja_journal.specs.BitEntries.{HasBit, abort_as, judged_as, off_as}
+use Rattle.sja_journal.specs.Entries.{off_left}
+use Rattle.sja_bus_rules.specs.Telling.{IsTurn}
+use Rattle.sja_journal.proofs.Growing.BitRecords.{record_bit}
 use Rattle.sja_driver.specs.Asking.{IsAsked}
-use Rattle.can_node.proofs.Requests.OneMore.{bit_more, abort_more}
-use Rattle.can_node.proofs.Requests.OnceOff.{off_more}
-use Rattle.can_node.proofs.Machine.Changes.{KeepsRequest}
-use Rattle.can_node.proofs.Requests.Requests.{step_keeps, held_alike, ended_is}
+use Rattle.can_node_rules.proofs.Requests.OneMore.{bit_more, abort_more}
+use Rattle.can_node_rules.proofs.Requests.OnceOff.{off_more}
+use Rattle.can_node_rules.proofs.Machine.Changes.{KeepsRequest}
+use Rattle.can_node_rules.proofs.Requests.Requests.{step_keeps, held_alike, ended_is}
 
 -- a journal whose record has a cut
 pub record HasCut (j : List Entry) : Type 0 where

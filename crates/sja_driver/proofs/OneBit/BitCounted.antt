@@ -1,41 +1,41 @@
--- A bit keeps how many entries a journal can have by the deeds of its driver.
+-- A bit keeps how many entries a journal can have by the acts of its driver.
 use Rattle.std.proofs.Common.{◌≡◌, ◌≤◌, ℕ, suc, ◌+◌, ◌*◌, Bool, true, false, not, Option, Some, None, List, [], ◌∷◌}
 use Rattle.std.proofs.Common.{◌++◌, inl, inr, refl, sym, ap, ◌∙◌, subst, append-nil, arith}
 use Rattle.std.specs.Prelude.{◌||◌, ◌&&◌, ◌⊎◌, if◌then◌else◌}
 use Rattle.std.proofs.lemmas.Bool.{cases_eq}
-use Rattle.can_bits.specs.declared.level.Level.{Level}
-use Rattle.can_node.specs.declared.abort_outcome.AbortOutcome.TheVariants.{Unchanged, Marked}
-use Rattle.can_node.specs.declared.request.Request.{Request}
-use Rattle.can_node.specs.Context.{ContextValue}
-use Rattle.can_node.specs.Effects.{is_in_progress, with_abort}
-use Rattle.can_node.specs.FinishedPieces.{Count, FinishedPiece}
-use Rattle.can_node.specs.Cut.{IsCut}
-use Rattle.can_node.specs.NextBit.{now_in}
-use Rattle.can_node.specs.Stands.{abort_of}
-use Rattle.sja_link.specs.declared.verdict.Verdict.{Verdict}
-use Rattle.sja_link.specs.declared.verdict.Verdict.TheVariants.{Stored as ToStore, Overrun as ToLose}
-use Rattle.sja_link.specs.declared.up.Up.TheVariants.{Start, Credit, Send, Stop}
-use Rattle.sja_link.specs.declared.entry.Entry.{Entry}
-use Rattle.sja_link.specs.declared.entry.Entry.TheVariants.{Bit, Up as Item, Abort, Stored, Overrun, Off}
+use Rattle.can_levels.specs.declared.level.Level.{Level}
+use Rattle.can_node_rules.specs.declared.abort_outcome.AbortOutcome.TheVariants.{Unchanged, Marked}
+use Rattle.can_node_rules.specs.declared.request.Request.{Request}
+use Rattle.can_node_rules.specs.Context.{ContextValue}
+use Rattle.can_node_rules.specs.Effects.{is_in_progress, with_abort}
+use Rattle.can_node_rules.specs.FinishedPieces.{Count, FinishedPiece}
+use Rattle.can_node_rules.specs.Cut.{IsCut}
+use Rattle.can_node_rules.specs.NextBit.{now_in}
+use Rattle.can_node_rules.specs.Outcomes.{abort_of}
+use Rattle.sja_journal.specs.declared.verdict.Verdict.{Verdict}
+use Rattle.sja_journal.specs.declared.verdict.Verdict.TheVariants.{Stored as ToStore, Overrun as ToLose}
+use Rattle.sja_journal.specs.declared.up.Up.TheVariants.{Start, Credit, Send, Stop}
+use Rattle.sja_journal.specs.declared.entry.Entry.{Entry}
+use Rattle.sja_journal.specs.declared.entry.Entry.TheVariants.{Bit, Up as Item, Abort, Stored, Overrun, Off}
 use Rattle.lemmas.specs.Gathering.{gathered, total}
-use Rattle.sja_link.specs.Places.{JournalPlace as Point, first_place, past, past_all, place_of, placed_from}
-use Rattle.sja_link.specs.Records.{told, told_at, record_of}
-use Rattle.sja_link.proofs.JournalEntries.Entering.{record_push, record_counted}
+use Rattle.sja_journal.specs.Places.{JournalPlace as Point, first_place, past, past_all, place_of, placed_from}
+use Rattle.sja_journal.specs.Records.{told, told_at, record_of}
+use Rattle.sja_journal.proofs.JournalEntries.Entering.{record_push, record_counted}
 use Rattle.lemmas.proofs.Gathered.{total_append, total_push}
 use Rattle.sja_regs.specs.declared.bus_turn.BusTurn.{BusTurn}
 use Rattle.sja_regs.specs.declared.orders.Orders.{Orders}
 use Rattle.sja_regs.specs.declared.registers.Registers.{Registers}
 use Rattle.sja_regs.specs.Turns.{ends, goes_off, after_turn}
-use Rattle.sja_link.specs.Aborting.{abort_in as abort_at, changes, IsApplied}
-use Rattle.sja_wire.specs.Buses.{IsNodeBit}
-use Rattle.sja_link.specs.Links.{stops_of}
-use Rattle.sja_link.specs.BitEntries.{HasBit, abort_as, judged_as, off_as}
-use Rattle.sja_driver.specs.Deeds.{Deed}
+use Rattle.sja_journal.specs.Aborting.{abort_in as abort_at, changes, IsApplied}
+use Rattle.sja_bus_rules.specs.Buses.{IsNodeBit}
+use Rattle.sja_journal.specs.Links.{stops_of}
+use Rattle.sja_journal.specs.BitEntries.{HasBit, abort_as, judged_as, off_as}
+use Rattle.sja_driver.specs.TypedActs.{TypedAct}
 use Rattle.sja_driver.specs.Counted.{item_in, off_in, abort_in, asks_by, changes_left, pending, off_left}
 use Rattle.sja_driver.specs.Counted.{IsCounted}
-use Rattle.can_node.proofs.Requests.OneMore.{abort_more}
-use Rattle.can_node.proofs.Requests.OnceOff.{is_off, is_off_both, offs, offs_both, left, off_once}
-use Rattle.can_node.proofs.Machine.Changes.{KeepsRequest}
+use Rattle.can_node_rules.proofs.Requests.OneMore.{abort_more}
+use Rattle.can_node_rules.proofs.Requests.OnceOff.{is_off, is_off_both, offs, offs_both, left, off_once}
+use Rattle.can_node_rules.proofs.Machine.Changes.{KeepsRequest}
 use Rattle.sja_driver.proofs.OneBit.BitAsked.{HasCut, opened_as, bit_keeps}
 
 -- ---- bus-off, of every journal whose record has a cut
@@ -190,15 +190,15 @@ unasked_not false changed h is = let no : true ≡ false = sym is ∙ h refl in 
 
 -- ---- the whole bit
 
--- after a bit a journal has no more entries than the deeds allow, where it was so before it: of a port that was told
+-- after a bit a journal has no more entries than the acts allow, where it was so before it: of a port that was told
 -- the turn of the bit, or passed over. No item was taken before the bit
 pub bit_counted : {has_orders : Orders → Type 0} {was_told : BusTurn → Type 0} {was_kept : Type 0} (untold : Bool)
-    (j k : List Entry) (driven seen : Level) (deeds : List Deed) (p q : Registers) →
+    (j k : List Entry) (driven seen : Level) (acts : List TypedAct) (p q : Registers) →
     (bit : IsNodeBit has_orders was_told was_kept untold j k driven seen) → bit.opens.taken ≡ j →
     ((orders : Orders) → has_orders orders → orders.abort ≡ p.abort) →
     ((turn : BusTurn) → was_told turn → q ≡ after_turn p turn) → (was_kept → q ≡ p) →
-    HasCut j → IsCounted j deeds p → IsCounted k deeds q
-bit_counted untold j k driven seen deeds p q bit none orders told kept lawful h =
+    HasCut j → IsCounted j acts p → IsCounted k acts q
+bit_counted untold j k driven seen acts p q bit none orders told kept lawful h =
     let opened = bit.opened in let changed = bit.opens.aborts.changed in let one = bit.bit in let t = bit.is_turn in
     let whole = opened_as untold j k driven seen bit none in
     let abort : bit.opens.orders.abort ≡ p.abort = orders bit.opens.orders bit.opens.are_orders in
@@ -223,7 +223,7 @@ bit_counted untold j k driven seen deeds p q bit none orders told kept lawful h 
           let b = of_judged abort_in one.verdict 0 (λ m. (omega arith, omega arith)) in
           let d = of_off abort_in one.off refl in
           let e = opened_counted j opened changed p.abort
-          (2 * total asks_by deeds) whole lawful ordered applied h.aborts t.found t.cut in
+          (2 * total asks_by acts) whole lawful ordered applied h.aborts t.found t.cut in
           let g = falls p.abort q.abort (now_in t.cut) (now_in c) stood
           (bit_keeps opened k driven seen one t.found others t.cut c) in
           omega (arith, a, b, d, e, g);

@@ -2,17 +2,17 @@
 use Rattle.std.proofs.Common.{◌≡◌, ℕ, ◌≤◌, Bool, true, false, List, refl, sym, ap, ◌∙◌, subst, arith, inl, inr}
 use Rattle.std.specs.Prelude.{◌⊎◌, ◌||◌, ◌&&◌, ◌==◌, not, if◌then◌else◌, is_some}
 use Rattle.std.proofs.lemmas.Bool.{eq-eqb, and_parts}
-use Rattle.can_bits.specs.declared.level.Level.{Level}
-use Rattle.can_node.specs.declared.bit_events.BitEvents.{BitEvents}
-use Rattle.sja_link.specs.declared.entry.Entry.{Entry}
-use Rattle.sja_link.specs.Places.{place_of}
+use Rattle.can_levels.specs.declared.level.Level.{Level}
+use Rattle.can_node_rules.specs.declared.bit_events.BitEvents.{BitEvents}
+use Rattle.sja_journal.specs.declared.entry.Entry.{Entry}
+use Rattle.sja_journal.specs.Places.{place_of}
 use Rattle.sja_regs.specs.declared.bus_turn.BusTurn.{BusTurn}
 use Rattle.sja_regs.specs.declared.registers.Registers.{Registers}
-use Rattle.sja_regs.specs.Registers.{is_raw}
+use Rattle.sja_regs.specs.Registers.{by_bytes}
 use Rattle.sja_regs.specs.Turns.{after_turn}
-use Rattle.sja_link.specs.BitEntries.{HasBit}
-use Rattle.sja_wire.specs.Telling.{IsTurn, IsPassedOver}
-use Rattle.sja_driver.specs.Deeds.{Deed, opened_by, is_active}
+use Rattle.sja_journal.specs.BitEntries.{HasBit}
+use Rattle.sja_bus_rules.specs.Telling.{IsTurn, IsPassedOver}
+use Rattle.sja_driver.specs.TypedActs.{TypedAct, opened_by, is_active}
 use Rattle.sja_driver.specs.Aborting.{sends_taken}
 use Rattle.sja_driver.specs.Settings.{settings_of}
 use Rattle.sja_driver.specs.Windows.{off_by}
@@ -32,7 +32,8 @@ asked_on true false true rec told was = refl
 
 alike_turn : (p r : Registers) (turn : BusTurn) → AreAlike p r → AreAlike (after_turn p turn) r
 alike_turn p r turn h =
-    let asks = asked_on (is_raw p) (turn.activation == p.activation) (is_some p.set_tec) (is_some p.set_rec) turn.txerr
+    let asks = asked_on (by_bytes p) (turn.activation == p.activation) (is_some p.set_tec) (is_some p.set_rec)
+    turn.txerr
     p.txerr ∙ h.asks in alike_set _ r (λ k. record (set_alike h k) { asks = asks k })
 
 -- reset mode is entered where the turn says bus-off in a turn of the port's activation
@@ -81,18 +82,18 @@ module _ (untold changed : Bool) (j opened k : List Entry) (driven seen : Level)
     | inr over ↦ sym (ap (λ (r : Registers). r.abort) over.kept) ∙ h
   ]
 
-  pub ported_bit : (version : ℕ) (deeds : List Deed) → settings_of version k deeds ≡ settings_of version j deeds →
-      (place_of k).activation ≡ opened_by deeds → (place_of j).bits ≤ (place_of k).bits →
+  pub ported_bit : (version : ℕ) (acts : List TypedAct) → settings_of version k acts ≡ settings_of version j acts →
+      (place_of k).activation ≡ opened_by acts → (place_of j).bits ≤ (place_of k).bits →
       sends_taken k ≡ sends_taken j →
-      off_by (place_of k).bits k (opened_by deeds) ≡ (off_by (place_of j).bits j (opened_by deeds) || bit.off) →
-      IsPorted version j deeds p → IsPorted version k deeds q
-  ported_bit version deeds settings at more sends offs h = record {
+      off_by (place_of k).bits k (opened_by acts) ≡ (off_by (place_of j).bits j (opened_by acts) || bit.off) →
+      IsPorted version j acts p → IsPorted version k acts q
+  ported_bit version acts settings at more sends offs h = record {
     version_is = kept (λ (r : Registers). r.version) refl ∙ h.version_is;
-    set = subst (λ (r : Registers). AreAlike q r) (sym settings) (set_now (settings_of version j deeds) h.set);
+    set = subst (λ (r : Registers). AreAlike q r) (sym settings) (set_now (settings_of version j acts) h.set);
     reset =
         reset_now (h.activation ∙ sym at) ∙ ap (λ (b : Bool). b || bit.off) h.reset
-        ∙ or_assoc (not (is_active deeds)) (off_by (place_of j).bits j (opened_by deeds)) bit.off
-        ∙ ap (λ (b : Bool). not (is_active deeds) || b) (sym offs);
+        ∙ or_assoc (not (is_active acts)) (off_by (place_of j).bits j (opened_by acts)) bit.off
+        ∙ ap (λ (b : Bool). not (is_active acts) || b) (sym offs);
     activation = kept (λ (r : Registers). r.activation) refl ∙ h.activation;
     unclosed = kept (λ (r : Registers). r.closed) refl ∙ h.unclosed;
     commanded = λ stands.

@@ -3,30 +3,30 @@ use Rattle.std.proofs.Common.{◌≡◌, ℕ, Bool, true, false, List, [], ◌�
 use Rattle.std.proofs.Common.{append-nil, inl, inr}
 use Rattle.std.specs.Prelude.{◌⊎◌, not, if◌then◌else◌}
 use Rattle.std.proofs.lemmas.Bool.{eq-eqb}
-use Rattle.can_node.specs.declared.config.Config.{Config}
-use Rattle.can_node.specs.declared.request.Request.{Request}
-use Rattle.can_node.specs.Context.{is_held}
-use Rattle.can_node.specs.NextBit.{now_in}
-use Rattle.sja_link.specs.NodeWords.{NodeEntry, NodeStarted, NodeStopped, NodeAsked, FinishedPiece, IsCut}
-use Rattle.sja_link.specs.declared.down.Down.{Down}
-use Rattle.sja_link.specs.declared.up.Up.TheVariants.{Start as StartItem, Credit, Send as SendItem, Stop as StopItem}
-use Rattle.sja_link.specs.declared.entry.Entry.{Entry}
-use Rattle.sja_link.specs.declared.entry.Entry.TheVariants.{Bit, Up as Item, Abort, Stored, Overrun, Off}
+use Rattle.can_node_rules.specs.declared.config.Config.{Config}
+use Rattle.can_node_rules.specs.declared.request.Request.{Request}
+use Rattle.can_node_rules.specs.Context.{is_held}
+use Rattle.can_node_rules.specs.NextBit.{now_in}
+use Rattle.sja_journal.specs.NodeWords.{NodeEntry, NodeStarted, NodeStopped, NodeAsked, FinishedPiece, IsCut}
+use Rattle.sja_journal.specs.declared.down.Down.{Down}
+use Rattle.sja_journal.specs.declared.up.Up.TheVariants.{Start as StartItem, Credit, Send as SendItem, Stop as StopItem}
+use Rattle.sja_journal.specs.declared.entry.Entry.{Entry}
+use Rattle.sja_journal.specs.declared.entry.Entry.TheVariants.{Bit, Up as Item, Abort, Stored, Overrun, Off}
 use Rattle.lemmas.specs.Gathering.{gathered}
 use Rattle.sja_link.specs.Looking.{off_among}
-use Rattle.sja_link.specs.Parts.{in_part, entry_at}
-use Rattle.sja_link.specs.Carried.{put_in, put_of}
-use Rattle.sja_link.specs.Places.{JournalPlace, first_place, past, past_all, placed_from, place_of}
-use Rattle.sja_link.specs.Records.{told, record_of}
-use Rattle.sja_link.specs.Verdicts.{IsLawful}
+use Rattle.sja_journal.specs.Parts.{in_part, entry_at}
+use Rattle.sja_journal.specs.Carried.{put_in, put_of}
+use Rattle.sja_journal.specs.Places.{JournalPlace, first_place, past, past_all, placed_from, place_of}
+use Rattle.sja_journal.specs.Records.{told, record_of}
+use Rattle.sja_journal.specs.Verdicts.{IsLawful}
 use Rattle.lemmas.proofs.Gathered.{gathered_append}
-use Rattle.sja_link.proofs.JournalEntries.Entering.{record_push}
+use Rattle.sja_journal.proofs.JournalEntries.Entering.{record_push}
 use Rattle.sja_link.proofs.Ledger.Pullings.{off_both, off_stays}
 use Rattle.sja_driver.specs.Windows.{off_by}
 use Rattle.sja_driver.proofs.Trace.Timings.{put_now}
 use Rattle.sja_regs.specs.declared.registers.Registers.{Registers}
 use Rattle.sja_driver.specs.Asking.{IsAsked}
-use Rattle.can_node.proofs.Requests.Cuts.{sent_holds, stopped_holds, started_holds}
+use Rattle.can_node_rules.proofs.Requests.Cuts.{sent_holds, stopped_holds, started_holds}
 
 -- ---- bus-off at the end of a journal was put in its activation
 

@@ -1,7 +1,7 @@
--- What a step leaves in the registers, beside what the deeds have set.
+-- What a step leaves in the registers, beside what the acts have set.
 use Rattle.std.proofs.Common.{◌≡◌, ℕ, Bool, true, false, [], ◌∷◌, refl, ap}
 use Rattle.std.specs.Prelude.{◌==◌, ◌&&◌, not, nat_le, if◌then◌else◌, Option, Some, None, is_some, slice_set, unwrap_or}
-use Rattle.sja_link.specs.declared.up.Up.TheVariants.{Start as StartItem}
+use Rattle.sja_journal.specs.declared.up.Up.TheVariants.{Start as StartItem}
 use Rattle.can_frame.specs.Buffer.{frame_in}
 use Rattle.sja_regs.specs.declared.register.Register.{Register}
 use Rattle.sja_regs.specs.declared.register.Register.TheVariants.{Mode, Interrupt, InterruptEnable}
@@ -16,14 +16,14 @@ use Rattle.sja_regs.specs.Modes.{mode_of}
 use Rattle.sja_regs.specs.Reading.{after_reading_at}
 use Rattle.sja_regs.specs.Registers.{after_leaving_reset, is_forced}
 use Rattle.sja_regs.specs.Writing.{after_forced_off, after_writing_at, after_loading}
-use Rattle.sja_script.specs.declared.step.Step.{Step}
-use Rattle.sja_script.specs.declared.step.Step.TheVariants.{Start, Stop, Window, Release, Read, Write, Load}
-use Rattle.sja_script.specs.declared.step.Step.TheVariants.{Command, Await, Sent, Interrupt, At}
-use Rattle.sja_script.specs.declared.step_answer.StepAnswer.{StepAnswer}
-use Rattle.sja_script.specs.declared.step_answer.StepAnswer.TheVariants.{Done, NoMessage, Shown, Released, Value}
-use Rattle.sja_script.specs.declared.step_answer.StepAnswer.TheVariants.{Refused, Ignored}
+use Rattle.sja_steps.specs.declared.step.Step.{Step}
+use Rattle.sja_steps.specs.declared.step.Step.TheVariants.{Start, Stop, Window, Release, Read, Write, Load}
+use Rattle.sja_steps.specs.declared.step.Step.TheVariants.{Command, Await, Sent, Interrupt, At}
+use Rattle.sja_steps.specs.declared.step_answer.StepAnswer.{StepAnswer}
+use Rattle.sja_steps.specs.declared.step_answer.StepAnswer.TheVariants.{Done, NoMessage, Shown, Released, Value}
+use Rattle.sja_steps.specs.declared.step_answer.StepAnswer.TheVariants.{Refused, Ignored}
 use Rattle.sja_driver.specs.Carried.{carried, ported}
-use Rattle.sja_driver.specs.Deeds.{opened}
+use Rattle.sja_driver.specs.TypedActs.{opened}
 use Rattle.sja_driver.specs.Ports.{send_of}
 use Rattle.sja_driver.specs.Settings.{in_mode, after_setting}
 use Rattle.sja_driver.specs.Alike.{AreAlike}

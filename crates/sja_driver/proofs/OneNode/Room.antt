@@ -1,28 +1,28 @@
 -- A journal has no more entries than are reserved for its run.
 use Rattle.std.proofs.Common.{◌≡◌, ℕ, ◌+◌, ◌≤◌, Bool, true, false, List, [], ◌∷◌, ◌++◌, length, ap, arith}
 use Rattle.std.specs.Prelude.{◌&&◌, not, if◌then◌else◌}
-use Rattle.sja_link.specs.declared.up.Up.{Up}
-use Rattle.sja_link.specs.declared.up.Up.TheVariants.{Start as StartItem, Credit, Send as SendItem, Stop as StopItem}
-use Rattle.sja_link.specs.declared.entry.Entry.{Entry}
-use Rattle.sja_link.specs.declared.entry.Entry.TheVariants.{Bit, Up as Item, Abort, Stored, Overrun, Off}
+use Rattle.sja_journal.specs.declared.up.Up.{Up}
+use Rattle.sja_journal.specs.declared.up.Up.TheVariants.{Start as StartItem, Credit, Send as SendItem, Stop as StopItem}
+use Rattle.sja_journal.specs.declared.entry.Entry.{Entry}
+use Rattle.sja_journal.specs.declared.entry.Entry.TheVariants.{Bit, Up as Item, Abort, Stored, Overrun, Off}
 use Rattle.lemmas.specs.Gathering.{gathered, total}
 use Rattle.lemmas.specs.Picking.{EachAfter}
-use Rattle.sja_link.specs.Judged.{judged_at}
-use Rattle.sja_link.specs.Places.{JournalPlace, first_place, past, past_all, place_of, placed, placed_from}
-use Rattle.sja_link.specs.Verdicts.{IsLawful}
-use Rattle.sja_link.specs.Written.{room_in}
-use Rattle.sja_link.proofs.JournalEntries.Entering.{bits_counted}
-use Rattle.sja_link.proofs.JournalEntries.Rooms.{HasFree, bits_apart}
-use Rattle.sja_link.proofs.Ledger.FewVerdicts.{verdicts_few}
+use Rattle.sja_journal.specs.Judged.{judged_at}
+use Rattle.sja_journal.specs.Places.{JournalPlace, first_place, past, past_all, place_of, placed, placed_from}
+use Rattle.sja_journal.specs.Verdicts.{IsLawful}
+use Rattle.sja_journal.specs.Written.{room_in}
+use Rattle.sja_journal.proofs.JournalEntries.Entering.{bits_counted}
+use Rattle.sja_journal.proofs.JournalEntries.Rooms.{HasFree, bits_apart}
+use Rattle.sja_journal.proofs.Ledger.FewVerdicts.{verdicts_few}
 use Rattle.sja_regs.specs.declared.registers.Registers.{Registers}
 use Rattle.sja_regs.specs.Commands.{command_of, requests}
-use Rattle.sja_script.specs.declared.step.Step.{Step}
-use Rattle.sja_script.specs.declared.step.Step.TheVariants.{Start, Stop, Window, Release, Read, Write, Load, Command}
-use Rattle.sja_script.specs.declared.step.Step.TheVariants.{Await, Sent, Interrupt, At}
-use Rattle.sja_script.specs.declared.step_answer.StepAnswer.{StepAnswer}
-use Rattle.sja_script.specs.declared.step_answer.StepAnswer.TheVariants.{Done, Released}
+use Rattle.sja_steps.specs.declared.step.Step.{Step}
+use Rattle.sja_steps.specs.declared.step.Step.TheVariants.{Start, Stop, Window, Release, Read, Write, Load, Command}
+use Rattle.sja_steps.specs.declared.step.Step.TheVariants.{Await, Sent, Interrupt, At}
+use Rattle.sja_steps.specs.declared.step_answer.StepAnswer.{StepAnswer}
+use Rattle.sja_steps.specs.declared.step_answer.StepAnswer.TheVariants.{Done, Released}
 use Rattle.sja_driver.specs.Carried.{asks_abort}
-use Rattle.sja_driver.specs.Deeds.{Deed, Gives, GivesSend}
+use Rattle.sja_driver.specs.TypedActs.{TypedAct, Gives, GivesSend}
 use Rattle.sja_driver.specs.Counted.{item_in, off_in, abort_in, asks_by, gave_by, IsCounted}
 
 -- ---- each entry is of one kind
@@ -64,7 +64,7 @@ begun_from p (Off ∷ es) = let h = begun_from (past p Off) es in omega (arith, 
 begun_few : (j : List Entry) → (place_of j).activation ≤ total item_in j
 begun_few j = let h = begun_from first_place j in omega (arith, h)
 
--- ---- a deed gives one item at most, or asks for an abort, and never both
+-- ---- an act gives one item at most, or asks for an abort, and never both
 
 asked_or_sent : (at asks : Bool) (gave : List Up) → GivesSend asks gave →
     length gave + (if (at && not asks) then 1 else 0) ≤ 1
@@ -98,7 +98,7 @@ one_each Sent r gave g = none_given gave g
 one_each Interrupt r gave g = none_given gave g
 one_each (At bits) r gave g = none_given gave g
 
-all_each : (before ds : List Deed) → EachAfter (λ b (d : Deed). Gives d.step d.answer d.gave) before ds →
+all_each : (before ds : List TypedAct) → EachAfter (λ b (d : TypedAct). Gives d.step d.answer d.gave) before ds →
     total gave_by ds + total asks_by ds ≤ length ds
 all_each before [] g = omega arith
 all_each before (d ∷ ds) g =
@@ -107,14 +107,15 @@ all_each before (d ∷ ds) g =
 
 -- ---- all together: with room for an abort, a bit, a verdict and bus-off more
 
-pub has_room : (j : List Entry) (deeds : List Deed) (p : Registers) (bits steps : ℕ) → IsCounted j deeds p → IsLawful j
+pub has_room : (j : List Entry) (acts : List TypedAct) (p : Registers) (bits steps : ℕ) → IsCounted j acts p →
+    IsLawful j
     →
-    EachAfter (λ b (d : Deed). Gives d.step d.answer d.gave) [] deeds → length deeds ≤ steps →
+    EachAfter (λ b (d : TypedAct). Gives d.step d.answer d.gave) [] acts → length acts ≤ steps →
     (place_of j).bits ≤ bits → HasFree 4 (room_in bits steps) j
-has_room j deeds p bits steps h lawful gives most run =
+has_room j acts p bits steps h lawful gives most run =
     let all = entries_counted j in
     let i = h.items in let v = verdicts_few j lawful in let o = h.offs in let a = h.aborts lawful.found lawful.cut in
-    let each = all_each [] deeds gives in let begun = begun_few j in
+    let each = all_each [] acts gives in let begun = begun_few j in
     let apart = bits_apart j in let bits = bits_counted j in record {
       all = omega (arith, all, i, v, o, a, each, most, run, begun);
       others = omega (arith, all, i, v, o, a, each, most, run, begun, apart, bits);

@@ -2,32 +2,32 @@
 use Rattle.std.proofs.Common.{◌≡◌, ℕ, Bool, true, false, List, [], ◌∷◌, ◌++◌, refl, sym, ap, ◌∙◌, subst, inl, inr}
 use Rattle.std.specs.Prelude.{◌⊎◌, ◌==◌, ◌||◌, ◌&&◌, not, if◌then◌else◌}
 use Rattle.std.proofs.lemmas.Bool.{and_parts}
-use Rattle.can_bits.specs.declared.level.Level.{Level}
-use Rattle.can_node.specs.declared.bit_events.BitEvents.{BitEvents}
-use Rattle.can_node.specs.declared.phase.Phase.{Phase}
-use Rattle.can_node.specs.declared.phase.Phase.TheVariants.{Reset}
-use Rattle.can_node.specs.Context.{ContextValue, is_transmitter}
-use Rattle.can_node.specs.Driving.{phase_at}
-use Rattle.can_node.specs.Effects.{along}
-use Rattle.can_node.specs.NextBit.{now_in}
-use Rattle.can_node.specs.Record.{bits_in}
-use Rattle.can_node.proofs.OneCut.CutOnce.{whole_once}
-use Rattle.sja_link.specs.NodeWords.{NodeEntry, NodeTook}
-use Rattle.sja_link.specs.declared.entry.Entry.{Entry}
-use Rattle.sja_link.specs.Records.{record_of}
+use Rattle.can_levels.specs.declared.level.Level.{Level}
+use Rattle.can_node_rules.specs.declared.bit_events.BitEvents.{BitEvents}
+use Rattle.can_node_rules.specs.declared.phase.Phase.{Phase}
+use Rattle.can_node_rules.specs.declared.phase.Phase.TheVariants.{Reset}
+use Rattle.can_node_rules.specs.Context.{ContextValue, is_transmitter}
+use Rattle.can_node_rules.specs.Driving.{phase_at}
+use Rattle.can_node_rules.specs.Effects.{along}
+use Rattle.can_node_rules.specs.NextBit.{now_in}
+use Rattle.can_node_rules.specs.Record.{bits_in}
+use Rattle.can_node_rules.proofs.OneCut.CutOnce.{whole_once}
+use Rattle.sja_journal.specs.NodeWords.{NodeEntry, NodeTook}
+use Rattle.sja_journal.specs.declared.entry.Entry.{Entry}
+use Rattle.sja_journal.specs.Records.{record_of}
 use Rattle.sja_regs.specs.declared.bus_turn.BusTurn.{BusTurn}
 use Rattle.sja_regs.specs.declared.registers.Registers.{Registers}
-use Rattle.sja_regs.specs.Registers.{is_raw, at_power_on}
+use Rattle.sja_regs.specs.Registers.{by_bytes, at_power_on}
 use Rattle.sja_regs.specs.Turns.{is_live, goes_off, role_bit, rs_told, ts_told, stands_still, follows_node}
 use Rattle.sja_regs.specs.Turns.{rxerr_after, txerr_after, bs_after, after_turn}
-use Rattle.sja_link.specs.BitEntries.{HasBit}
-use Rattle.sja_link.specs.Inside.Entries.{off_left}
-use Rattle.sja_wire.specs.Telling.{Says, IsTurn, IsPassedOver}
+use Rattle.sja_journal.specs.BitEntries.{HasBit}
+use Rattle.sja_journal.specs.Entries.{off_left}
+use Rattle.sja_bus_rules.specs.Telling.{Says, IsTurn, IsPassedOver}
 use Rattle.sja_regs.proofs.BusTurns.SaysTheSame.{says_same}
-use Rattle.sja_link.proofs.Growing.BitRecords.{record_bit}
+use Rattle.sja_journal.proofs.Growing.BitRecords.{record_bit}
 use Rattle.sja_driver.specs.Shown.{ShowsRecord}
-use Rattle.can_node.proofs.Requests.Cuts.{now_first, reset_first}
-use Rattle.can_node.proofs.Requests.OnceOff.{off_resets}
+use Rattle.can_node_rules.proofs.Requests.Cuts.{now_first, reset_first}
+use Rattle.can_node_rules.proofs.Requests.OnceOff.{off_resets}
 
 -- ---- turns that say what stands at the end of one record
 
@@ -129,13 +129,13 @@ module _ (changed : Bool) (opened k : List Entry) (driven seen : Level) (bit : H
         let a = say_alike k t turn s is.says in
         (λ i. if stands_still (after_turn p turn) (record turn { activation = a.activation i })
         then (after_turn p turn).rs else a.rs i)
-        ∙ role_shown (is_raw p) (goes_off p turn) p.mode.rm has_left p.rs (rs_told turn)
+        ∙ role_shown (by_bytes p) (goes_off p turn) p.mode.rm has_left p.rs (rs_told turn)
         (λ goes. ap (λ (x : Phase). role_bit x turn.events.receiving) (off_in_reset goes));
     ts = λ t s.
         let a = say_alike k t turn s is.says in
         (λ i. if stands_still (after_turn p turn) (record turn { activation = a.activation i })
         then (after_turn p turn).ts else a.ts i)
-        ∙ role_shown (is_raw p) (goes_off p turn) p.mode.rm has_left p.ts (ts_told turn)
+        ∙ role_shown (by_bytes p) (goes_off p turn) p.mode.rm has_left p.ts (ts_told turn)
         (λ goes. ap (λ (x : Phase). role_bit x (not turn.events.receiving)) (off_in_reset goes));
     bs = λ t s.
         let a = say_alike k t turn s is.says in

@@ -6,8 +6,8 @@ use Rattle.std.proofs.lemmas.List.{set-get_or, get_or-set_same, get_or-set_other
 use Rattle.std.proofs.lemmas.Slice.Zip.{AllZip-long}
 use Rattle.lemmas.specs.Related.{EachRelated}
 use Rattle.lemmas.proofs.Related.{each_at}
-use Rattle.sja_link.specs.Links.{AreEnds}
-use Rattle.sja_driver.specs.Deeds.{Deed, with_deeds, deeds_at}
+use Rattle.sja_journal.specs.Links.{AreEnds}
+use Rattle.sja_driver.specs.TypedActs.{TypedAct, with_acts, acts_at}
 
 -- what holds of three lists place by place, where one place of each is set anew
 pub each_set : {A B C : Type 0} (P : ℕ → A → B → C → Type 0) (xs : List A) (ys : List B) (zs : List C) (i : ℕ)
@@ -26,8 +26,8 @@ each_set P xs ys zs i x a y b z c p q r here others m = elim (cases_eq i m) [
       (others m other)
 ]
 
-pub no_deeds : (deeds : List (List Deed)) (node : ℕ) → with_deeds deeds node [] ≡ deeds
-no_deeds deeds node = ap (slice_set deeds node) (append-nil (deeds_at deeds node)) ∙ set-get_or deeds node []
+pub no_acts : (acts : List (List TypedAct)) (node : ℕ) → with_acts acts node [] ≡ acts
+no_acts acts node = ap (slice_set acts node) (append-nil (acts_at acts node)) ∙ set-get_or acts node []
 
 -- ends of which each is another state of what stood there are those of the same nodes
 pub ends_still : {E : Type 0} (node_of : E → ℕ) (alike : E → E → Type 0) →

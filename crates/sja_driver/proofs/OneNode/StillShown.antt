@@ -3,7 +3,7 @@ use Rattle.std.proofs.Common.{◌≡◌, ℕ, Bool, true, false, Option, Some, N
 use Rattle.std.specs.Prelude.{◌==◌, ◌||◌, ◌&&◌, not, if◌then◌else◌, is_some, unwrap_or}
 use Rattle.std.proofs.Math.Bool.{or-true}
 use Rattle.can_frame.specs.declared.buffer_view.BufferView.{BufferView}
-use Rattle.sja_link.specs.declared.entry.Entry.{Entry}
+use Rattle.sja_journal.specs.declared.entry.Entry.{Entry}
 use Rattle.sja_regs.specs.declared.bus_turn.BusTurn.{BusTurn}
 use Rattle.sja_regs.specs.declared.mode.Mode.{Mode as ModeBits}
 use Rattle.sja_regs.specs.declared.reg_fault.RegFault.{RegFault}
@@ -18,14 +18,14 @@ use Rattle.sja_regs.specs.Addresses.{register_at}
 use Rattle.sja_regs.specs.Reading.{after_reading_at}
 use Rattle.sja_regs.specs.Modes.{mode_of}
 use Rattle.sja_regs.specs.Refusals.{first_fault}
-use Rattle.sja_regs.specs.Registers.{is_raw, asks_off, is_forced}
+use Rattle.sja_regs.specs.Registers.{by_bytes, asks_off, is_forced}
 use Rattle.sja_regs.specs.Turns.{rs_told, ts_told, stands_still, follows_node, rxerr_after, txerr_after, bs_after}
 use Rattle.sja_regs.specs.Writing.{after_forced_off, write_faults_at, after_writing_at}
-use Rattle.sja_script.specs.declared.step.Step.{Step}
-use Rattle.sja_script.specs.declared.step.Step.TheVariants.{Start, Stop, Window, Release, Read}
-use Rattle.sja_script.specs.declared.step.Step.TheVariants.{Write, Load, Command, Await, Sent, Interrupt, At}
-use Rattle.sja_script.specs.declared.step_answer.StepAnswer.{StepAnswer}
-use Rattle.sja_script.specs.declared.step_answer.StepAnswer.TheVariants.{Done}
+use Rattle.sja_steps.specs.declared.step.Step.{Step}
+use Rattle.sja_steps.specs.declared.step.Step.TheVariants.{Start, Stop, Window, Release, Read}
+use Rattle.sja_steps.specs.declared.step.Step.TheVariants.{Write, Load, Command, Await, Sent, Interrupt, At}
+use Rattle.sja_steps.specs.declared.step_answer.StepAnswer.{StepAnswer}
+use Rattle.sja_steps.specs.declared.step_answer.StepAnswer.TheVariants.{Done}
 use Rattle.sja_driver.specs.Answers.{done_unless}
 use Rattle.sja_driver.specs.Carried.{Tells, carried, ported}
 use Rattle.sja_driver.proofs.Step.Modes.{write_rm}
@@ -67,15 +67,15 @@ unfollowed true same set e f = and_none same set f
 unfollowed false same set e f = absurd cc
 
 -- a counter is written from version 3 on
-raw_written : (raw : Bool) (rest : List (Bool × RegFault)) →
+written_by_bytes : (raw : Bool) (rest : List (Bool × RegFault)) →
     Done ≡ done_unless (first_fault ((not raw, ReadOnly) ∷ rest)) → raw ≡ true
-raw_written true rest h = refl
-raw_written false rest h = absurd cc
+written_by_bytes true rest h = refl
+written_by_bytes false rest h = absurd cc
 
 -- RS and TS stand still in the same turns where RM is the same
 kept_still : {rm : Bool} (p : Registers) → rm ≡ p.mode.rm → (turn : BusTurn) →
-    (is_raw p && (rm || not (turn.activation == p.activation))) ≡ stands_still p turn
-kept_still p keep turn = ap (λ b. is_raw p && (b || not (turn.activation == p.activation))) keep
+    (by_bytes p && (rm || not (turn.activation == p.activation))) ≡ stands_still p turn
+kept_still p keep turn = ap (λ b. by_bytes p && (b || not (turn.activation == p.activation))) keep
 
 -- a bus-off that is asked for was written to TXERR
 unfollowed_asked : (raw same tec rec full : Bool) → (raw && (tec && full)) ≡ true →
@@ -95,7 +95,7 @@ mode_alike : (off : Bool) (m : ModeBits) (p : Registers) → (off ≡ true → a
     q.mode.rm ≡ p.mode.rm → ShowAlike p q)
 mode_alike true m p asks keep =
     record {
-      counts = own_counts (λ t. unfollowed_asked (is_raw p) (t.activation == p.activation) (is_some p.set_tec) true
+      counts = own_counts (λ t. unfollowed_asked (by_bytes p) (t.activation == p.activation) (is_some p.set_tec) true
           (p.txerr == 255) (asks refl));
       rs = refl;
       ts = refl;
@@ -105,19 +105,19 @@ mode_alike false m p asks keep =
     record { counts = same_counts refl refl refl (λ t. refl); rs = refl; ts = refl; still = kept_still p keep }
 
 -- TXERR was written
-txerr_alike : (full : Bool) (v : ℕ) (p : Registers) → is_raw p ≡ true →
+txerr_alike : (full : Bool) (v : ℕ) (p : Registers) → by_bytes p ≡ true →
     ShowAlike p (if full then record p { txerr = v; set_tec = Some v }
     else record p { txerr = v; rxerr = unwrap_or p.set_rec p.rxerr; bs = false; set_tec = Some v })
 txerr_alike true v p raw =
     record {
-      counts = own_counts (λ t. unfollowed (is_raw p) (t.activation == p.activation) true raw refl);
+      counts = own_counts (λ t. unfollowed (by_bytes p) (t.activation == p.activation) true raw refl);
       rs = refl;
       ts = refl;
       still = λ t. refl;
     }
 txerr_alike false v p raw =
     record {
-      counts = own_counts (λ t. unfollowed (is_raw p) (t.activation == p.activation) true raw refl);
+      counts = own_counts (λ t. unfollowed (by_bytes p) (t.activation == p.activation) true raw refl);
       rs = refl;
       ts = refl;
       still = λ t. refl;
@@ -135,14 +135,14 @@ write_alike (Some ErrorWarningLimit) v p h =
     record { counts = same_counts refl refl refl (λ t. refl); rs = refl; ts = refl; still = λ t. refl }
 write_alike (Some ReceiveErrorCounter) v p h =
     record {
-      counts = own_counts (λ t. unfollowed (is_raw p) (t.activation == p.activation) (is_some p.set_tec || true)
-          (raw_written (is_raw p) ((not p.mode.rm, ResetOnly) ∷ []) h) (or-true (is_some p.set_tec)));
+      counts = own_counts (λ t. unfollowed (by_bytes p) (t.activation == p.activation) (is_some p.set_tec || true)
+          (written_by_bytes (by_bytes p) ((not p.mode.rm, ResetOnly) ∷ []) h) (or-true (is_some p.set_tec)));
       rs = refl;
       ts = refl;
       still = λ t. refl;
     }
 write_alike (Some TransmitErrorCounter) v p h =
-    txerr_alike (v == 255) v p (raw_written (is_raw p) ((not p.mode.rm, ResetOnly) ∷ []) h)
+    txerr_alike (v == 255) v p (written_by_bytes (by_bytes p) ((not p.mode.rm, ResetOnly) ∷ []) h)
 write_alike (Some (AcceptanceCode i)) v p h =
     record { counts = same_counts refl refl refl (λ t. refl); rs = refl; ts = refl; still = λ t. refl }
 write_alike (Some (AcceptanceMask i)) v p h =

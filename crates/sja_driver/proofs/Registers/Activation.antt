@@ -4,13 +4,13 @@ use Rattle.std.specs.Prelude.{◌^◌, ◌-◌, min, if◌then◌else◌}
 use Rattle.sja_regs.specs.declared.registers.Registers.{Registers}
 use Rattle.sja_regs.specs.Addresses.{register_at}
 use Rattle.sja_regs.specs.Registers.{after_leaving_reset}
-use Rattle.sja_script.specs.declared.step.Step.{Step}
-use Rattle.sja_script.specs.declared.step.Step.TheVariants.{Start, Stop, Window, Release, Read}
-use Rattle.sja_script.specs.declared.step.Step.TheVariants.{Write, Load, Command, Await, Sent, Interrupt, At}
-use Rattle.sja_script.specs.declared.step_answer.StepAnswer.{StepAnswer}
-use Rattle.sja_script.specs.declared.step_answer.StepAnswer.TheVariants.{Done}
+use Rattle.sja_steps.specs.declared.step.Step.{Step}
+use Rattle.sja_steps.specs.declared.step.Step.TheVariants.{Start, Stop, Window, Release, Read}
+use Rattle.sja_steps.specs.declared.step.Step.TheVariants.{Write, Load, Command, Await, Sent, Interrupt, At}
+use Rattle.sja_steps.specs.declared.step_answer.StepAnswer.{StepAnswer}
+use Rattle.sja_steps.specs.declared.step_answer.StepAnswer.TheVariants.{Done}
 use Rattle.sja_driver.specs.Carried.{ported}
-use Rattle.sja_driver.specs.Deeds.{opened}
+use Rattle.sja_driver.specs.TypedActs.{opened}
 use Rattle.sja_regs.proofs.Calls.Untouched.{read_leaves, write_leaves}
 
 min_few : (n : ℕ) → n < 2 ^ 56 → min (2 ^ 64 - 1) (n + 1) ≡ n + 1

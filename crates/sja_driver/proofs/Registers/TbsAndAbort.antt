@@ -6,13 +6,13 @@ use Rattle.sja_regs.specs.declared.bus_turn.BusTurn.{BusTurn}
 use Rattle.sja_regs.specs.declared.registers.Registers.{Registers}
 use Rattle.sja_regs.specs.Commands.{command_of, requests}
 use Rattle.sja_regs.specs.Turns.{ends, goes_off, after_turn}
-use Rattle.sja_script.specs.declared.step.Step.{Step}
-use Rattle.sja_script.specs.declared.step.Step.TheVariants.{Start, Stop, Window, Release, Read}
-use Rattle.sja_script.specs.declared.step.Step.TheVariants.{Write, Load, Command, Await, Sent, Interrupt, At}
-use Rattle.sja_script.specs.declared.step_answer.StepAnswer.{StepAnswer}
-use Rattle.sja_script.specs.declared.step_answer.StepAnswer.TheVariants.{Done, Released}
+use Rattle.sja_steps.specs.declared.step.Step.{Step}
+use Rattle.sja_steps.specs.declared.step.Step.TheVariants.{Start, Stop, Window, Release, Read}
+use Rattle.sja_steps.specs.declared.step.Step.TheVariants.{Write, Load, Command, Await, Sent, Interrupt, At}
+use Rattle.sja_steps.specs.declared.step_answer.StepAnswer.{StepAnswer}
+use Rattle.sja_steps.specs.declared.step_answer.StepAnswer.TheVariants.{Done, Released}
 use Rattle.sja_driver.specs.Carried.{Tells, carried, ported, asks_abort}
-use Rattle.sja_driver.specs.Deeds.{FitsState, opened, active_after}
+use Rattle.sja_driver.specs.TypedActs.{FitsState, opened, active_after}
 use Rattle.sja_driver.proofs.Step.Modes.{rm_step, abort_step}
 use Rattle.sja_driver.proofs.Registers.TransmitBuffer.{tbs_by, tbs_step, accepted_out}
 

@@ -2,9 +2,9 @@
 use Rattle.std.proofs.Common.{◌≡◌, ◌≢◌, ℕ, Bool, true, false, List, [], ◌∷◌, refl}
 use Rattle.std.specs.Prelude.{◌&&◌, not, if◌then◌else◌, Some, None}
 use Rattle.can_frame.specs.declared.buffer_view.BufferView.{BufferView}
-use Rattle.can_node.specs.declared.request.Request.{Request}
-use Rattle.sja_link.specs.declared.up.Up.{Up}
-use Rattle.sja_link.specs.declared.up.Up.TheVariants.{Start as StartItem, Credit, Send as SendItem, Stop as StopItem}
+use Rattle.can_node_rules.specs.declared.request.Request.{Request}
+use Rattle.sja_journal.specs.declared.up.Up.{Up}
+use Rattle.sja_journal.specs.declared.up.Up.TheVariants.{Start as StartItem, Credit, Send as SendItem, Stop as StopItem}
 use Rattle.lemmas.specs.Gathering.{total}
 use Rattle.sja_link.specs.World.{is_send}
 use Rattle.sja_regs.specs.declared.reg_fault.RegFault.{RegFault}
@@ -16,14 +16,14 @@ use Rattle.sja_regs.specs.Commands.{command_of, requests, command_faults}
 use Rattle.sja_regs.specs.Refusals.{first_fault}
 use Rattle.sja_regs.specs.Registers.{after_leaving_reset}
 use Rattle.sja_regs.specs.Writing.{is_first_version}
-use Rattle.sja_script.specs.declared.step.Step.{Step}
-use Rattle.sja_script.specs.declared.step.Step.TheVariants.{Start, Stop, Window, Release, Read}
-use Rattle.sja_script.specs.declared.step.Step.TheVariants.{Write, Load, Command, Await, Sent, Interrupt, At}
-use Rattle.sja_script.specs.declared.step_answer.StepAnswer.{StepAnswer}
-use Rattle.sja_script.specs.declared.step_answer.StepAnswer.TheVariants.{Done, Released}
+use Rattle.sja_steps.specs.declared.step.Step.{Step}
+use Rattle.sja_steps.specs.declared.step.Step.TheVariants.{Start, Stop, Window, Release, Read}
+use Rattle.sja_steps.specs.declared.step.Step.TheVariants.{Write, Load, Command, Await, Sent, Interrupt, At}
+use Rattle.sja_steps.specs.declared.step_answer.StepAnswer.{StepAnswer}
+use Rattle.sja_steps.specs.declared.step_answer.StepAnswer.TheVariants.{Done, Released}
 use Rattle.sja_driver.specs.Answers.{done_unless}
 use Rattle.sja_driver.specs.Carried.{Tells, carried, ported, asks_abort}
-use Rattle.sja_driver.specs.Deeds.{FitsState}
+use Rattle.sja_driver.specs.TypedActs.{FitsState}
 use Rattle.sja_driver.specs.Ports.{send_of}
 use Rattle.sja_regs.proofs.Calls.Untouched.{read_leaves, write_leaves}
 

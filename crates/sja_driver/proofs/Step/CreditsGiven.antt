@@ -1,18 +1,18 @@
 -- The credits that a driver gives are the lengths that its releases answer.
 use Rattle.std.proofs.Common.{◌≡◌, ℕ, ◌+◌, Bool, true, false, List, [], ◌∷◌, ◌++◌, refl, ap, ap₂, ◌∙◌}
 use Rattle.std.specs.Prelude.{◌==◌, if◌then◌else◌}
-use Rattle.sja_link.specs.declared.up.Up.{Up}
+use Rattle.sja_journal.specs.declared.up.Up.{Up}
 use Rattle.lemmas.specs.Picking.{EachAfter}
 use Rattle.sja_link.specs.World.{credits_of}
 use Rattle.sja_link.proofs.JournalEntries.ListCounts.{credits_both}
 use Rattle.sja_regs.specs.Commands.{command_of, requests}
-use Rattle.sja_script.specs.declared.step.Step.{Step}
-use Rattle.sja_script.specs.declared.step.Step.TheVariants.{Start, Stop, Window, Release, Read, Write, Load, Command}
-use Rattle.sja_script.specs.declared.step.Step.TheVariants.{Await, Sent, Interrupt, At}
-use Rattle.sja_script.specs.declared.step_answer.StepAnswer.{StepAnswer}
-use Rattle.sja_script.specs.declared.step_answer.StepAnswer.TheVariants.{Done, Released}
-use Rattle.sja_driver.specs.Deeds.{Deed, opens_by, Gives, GivesSend, length_in, given_in, released_lengths}
-use Rattle.sja_driver.specs.Deeds.{section_from}
+use Rattle.sja_steps.specs.declared.step.Step.{Step}
+use Rattle.sja_steps.specs.declared.step.Step.TheVariants.{Start, Stop, Window, Release, Read, Write, Load, Command}
+use Rattle.sja_steps.specs.declared.step.Step.TheVariants.{Await, Sent, Interrupt, At}
+use Rattle.sja_steps.specs.declared.step_answer.StepAnswer.{StepAnswer}
+use Rattle.sja_steps.specs.declared.step_answer.StepAnswer.TheVariants.{Done, Released}
+use Rattle.sja_driver.specs.TypedActs.{TypedAct, opens_by, Gives, GivesSend, length_in, given_in, released_lengths}
+use Rattle.sja_driver.specs.TypedActs.{section_from}
 
 credit_one : (s : Step) (r : StepAnswer) (gave : List Up) → Gives s r gave → credits_of gave ≡ length_in s r
 credit_one Start Done gave g = ap credits_of g.1
@@ -36,8 +36,8 @@ credit_one Sent r gave g = ap credits_of g
 credit_one Interrupt r gave g = ap credits_of g
 credit_one (At bits) r gave g = ap credits_of g
 
-pub credits_in : (n : ℕ) (before ds : List Deed) (a : ℕ) →
-    EachAfter (λ b (d : Deed). Gives d.step d.answer d.gave) before ds →
+pub credits_in : (n : ℕ) (before ds : List TypedAct) (a : ℕ) →
+    EachAfter (λ b (d : TypedAct). Gives d.step d.answer d.gave) before ds →
     credits_of (given_in (section_from opens_by n ds a)) ≡ released_lengths (section_from opens_by n ds a)
 credits_in n before [] a g = refl
 credits_in n before (d ∷ ds) a g =

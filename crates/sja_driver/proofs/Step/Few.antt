@@ -2,31 +2,31 @@
 use Rattle.std.proofs.Common.{◌≡◌, ℕ, ◌+◌, ◌*◌, ◌≤◌, Bool, true, false, List, [], ◌∷◌, ◌++◌, length, map, refl, sym, ap}
 use Rattle.std.proofs.Common.{◌∙◌, subst, append_assoc, append-nil, arith}
 use Rattle.std.specs.Prelude.{if◌then◌else◌}
-use Rattle.sja_link.specs.NodeWords.{ReceivedFrame}
-use Rattle.sja_link.specs.declared.down.Down.{Down}
-use Rattle.sja_link.specs.declared.up.Up.{Up}
-use Rattle.sja_link.specs.declared.up.Up.TheVariants.{Start as StartUp, Credit, Send as SendUp, Stop as StopUp}
-use Rattle.sja_link.specs.declared.entry.Entry.{Entry}
-use Rattle.sja_link.specs.declared.entry.Entry.TheVariants.{Bit, Up as Item, Abort, Stored, Overrun, Off}
+use Rattle.sja_journal.specs.NodeWords.{ReceivedFrame}
+use Rattle.sja_journal.specs.declared.down.Down.{Down}
+use Rattle.sja_journal.specs.declared.up.Up.{Up}
+use Rattle.sja_journal.specs.declared.up.Up.TheVariants.{Start as StartUp, Credit, Send as SendUp, Stop as StopUp}
+use Rattle.sja_journal.specs.declared.entry.Entry.{Entry}
+use Rattle.sja_journal.specs.declared.entry.Entry.TheVariants.{Bit, Up as Item, Abort, Stored, Overrun, Off}
 use Rattle.lemmas.specs.Gathering.{total}
-use Rattle.sja_link.specs.Lists.{messages}
+use Rattle.sja_journal.specs.Lists.{messages}
 use Rattle.sja_link.specs.Looking.{Holds}
 use Rattle.sja_link.specs.World.{bytes_of, credits_of}
-use Rattle.sja_link.specs.Accounts.{Account}
-use Rattle.sja_link.specs.Parts.{part}
-use Rattle.sja_link.specs.Records.{record_of}
-use Rattle.sja_link.specs.Carried.{put_of, taken_of, stored_of}
-use Rattle.sja_link.specs.Free.{credit_of, credit_in, bytes_in}
-use Rattle.sja_link.specs.Judged.{Judged, judged_in, kept}
+use Rattle.sja_journal.specs.Accounts.{Account}
+use Rattle.sja_journal.specs.Parts.{part}
+use Rattle.sja_journal.specs.Records.{record_of}
+use Rattle.sja_journal.specs.Carried.{put_of, taken_of, stored_of}
+use Rattle.sja_journal.specs.Free.{credit_of, credit_in, bytes_in}
+use Rattle.sja_journal.specs.Judged.{Judged, judged_in, kept}
 use Rattle.lemmas.specs.Picking.{Picks, EachAfter}
 use Rattle.lemmas.specs.Picking.Picks.{nothing, picked, left}
-use Rattle.sja_link.specs.Verdicts.{IsOn, IsFair, IsDue, IsLawful}
+use Rattle.sja_journal.specs.Verdicts.{IsOn, IsFair, IsDue, IsLawful}
 use Rattle.lemmas.proofs.Gathered.{total_push, total_append}
 use Rattle.sja_link.proofs.Ledger.Holding.{told_stored}
-use Rattle.sja_link.proofs.Ledger.Judging.{kept_stored}
-use Rattle.sja_driver.specs.Deeds.{Deed, opens_by, Gives, given_in, released_lengths, section_from, deeds_of}
+use Rattle.sja_journal.proofs.Ledger.Judging.{kept_stored}
+use Rattle.sja_driver.specs.TypedActs.{TypedAct, opens_by, Gives, given_in, released_lengths, section_from, acts_of}
 use Rattle.sja_driver.proofs.Step.CreditsGiven.{credits_in}
-use Rattle.can_node.proofs.Requests.FramesReceived.{AreFrames, all_frames, message_fits}
+use Rattle.can_node_rules.proofs.Requests.FramesReceived.{AreFrames, all_frames, message_fits}
 
 -- ---- a message has 3 to 13 bytes
 
@@ -120,7 +120,8 @@ credits_sum (StartUp config ∷ us) = let e = credits_sum us in omega (arith, e)
 credits_sum (SendUp request ∷ us) = let e = credits_sum us in omega (arith, e)
 credits_sum (StopUp ∷ us) = let e = credits_sum us in omega (arith, e)
 
-pub credits_section : (n : ℕ) (before ds : List Deed) (a : ℕ) → EachAfter (λ b (d : Deed). Gives d.step d.answer d.gave)
+pub credits_section : (n : ℕ) (before ds : List TypedAct) (a : ℕ) →
+    EachAfter (λ b (d : TypedAct). Gives d.step d.answer d.gave)
     before ds →
     total credit_of (given_in (section_from opens_by n ds a)) ≡ all_of (released_lengths (section_from opens_by n ds a))
 credits_section n before ds a gives =
@@ -132,12 +133,13 @@ bytes_lengths (m ∷ ms) = ap (λ n. length m + n) (bytes_lengths ms)
 
 -- ---- all together
 
-pub few_held : (j : List Entry) (a : ℕ) (deeds : List Deed) (got down : List Down) (released window : List (List ℕ)) →
+pub few_held : (j : List Entry) (a : ℕ) (acts : List TypedAct) (got down : List Down) (released window : List (List ℕ))
+    →
     IsLawful j →
-    put_of (part j a) ≡ got ++ down → Holds got released window → given_in (deeds_of deeds a) ≡ taken_of (part j a) →
-    EachAfter (λ b (d : Deed). Gives d.step d.answer d.gave) [] deeds →
-    released_lengths (deeds_of deeds a) ≡ map (λ (m : List ℕ). length m) released → length window ≤ 21
-few_held j a deeds got down released window lawful put holds given gives lengths =
+    put_of (part j a) ≡ got ++ down → Holds got released window → given_in (acts_of acts a) ≡ taken_of (part j a) →
+    EachAfter (λ b (d : TypedAct). Gives d.step d.answer d.gave) [] acts →
+    released_lengths (acts_of acts a) ≡ map (λ (m : List ℕ). length m) released → length window ≤ 21
+few_held j a acts got down released window lawful put holds given gives lengths =
     let driver : Account = record { got = got; given = [] } in
     let all : released ++ (window ++ messages down) ≡ stored_of (part j a) =
     told_stored j a driver down released window put holds in
@@ -149,7 +151,7 @@ few_held j a deeds got down released window lawful put holds given gives lengths
     let stored = bytes_stored (part j a) ∙ ap bytes_of (sym all) ∙ total_append (λ (m : List ℕ). length m) released
     (window ++ messages down) in
     let rest = total_append (λ (m : List ℕ). length m) window (messages down) in
-    let credits = credits_taken (part j a) ∙ ap (total credit_of) (sym given) ∙ credits_section 0 [] deeds a gives
+    let credits = credits_taken (part j a) ∙ ap (total credit_of) (sym given) ∙ credits_section 0 [] acts a gives
     ∙ ap all_of lengths ∙ sym (bytes_lengths released) in
     let enough = long_bytes window long in
     omega (arith, room, stored, rest, credits, enough)

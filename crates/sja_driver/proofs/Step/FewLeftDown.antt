@@ -3,30 +3,30 @@ use Rattle.std.proofs.Common.{◌≡◌, ℕ, suc, ◌+◌, ◌*◌, ◌≤◌, 
 use Rattle.std.proofs.Common.{sym, ap, ◌∙◌, subst, arith}
 use Rattle.std.specs.Prelude.{if◌then◌else◌}
 use Rattle.std.proofs.lemmas.List.{length-append}
-use Rattle.sja_link.specs.NodeWords.{ReceivedFrame}
-use Rattle.sja_link.specs.declared.down.Down.{Down}
-use Rattle.sja_link.specs.declared.down.Down.TheVariants.{Message, Off as OffDown}
-use Rattle.sja_link.specs.declared.up.Up.{Up}
-use Rattle.sja_link.specs.declared.entry.Entry.{Entry}
+use Rattle.sja_journal.specs.NodeWords.{ReceivedFrame}
+use Rattle.sja_journal.specs.declared.down.Down.{Down}
+use Rattle.sja_journal.specs.declared.down.Down.TheVariants.{Message, Off as OffDown}
+use Rattle.sja_journal.specs.declared.up.Up.{Up}
+use Rattle.sja_journal.specs.declared.entry.Entry.{Entry}
 use Rattle.lemmas.specs.Gathering.{total}
-use Rattle.sja_link.specs.Lists.{messages}
+use Rattle.sja_journal.specs.Lists.{messages}
 use Rattle.sja_link.specs.Looking.{Holds}
-use Rattle.sja_link.specs.Accounts.{Account}
-use Rattle.sja_link.specs.Parts.{part}
-use Rattle.sja_link.specs.Carried.{put_of, taken_of, stored_of}
-use Rattle.sja_link.specs.Free.{credit_of}
-use Rattle.sja_link.specs.Judged.{Judged, judged_in, kept}
+use Rattle.sja_journal.specs.Accounts.{Account}
+use Rattle.sja_journal.specs.Parts.{part}
+use Rattle.sja_journal.specs.Carried.{put_of, taken_of, stored_of}
+use Rattle.sja_journal.specs.Free.{credit_of}
+use Rattle.sja_journal.specs.Judged.{Judged, judged_in, kept}
 use Rattle.lemmas.specs.Picking.{Picks, EachAfter}
 use Rattle.lemmas.specs.Picking.Picks.{nothing, picked, left}
-use Rattle.sja_link.specs.Verdicts.{IsOn, HasVerdicts}
+use Rattle.sja_journal.specs.Verdicts.{IsOn, HasVerdicts}
 use Rattle.lemmas.proofs.Gathered.{total_append}
 use Rattle.sja_link.proofs.Ledger.Holding.{told_stored}
-use Rattle.sja_link.proofs.Ledger.Judging.{kept_stored}
+use Rattle.sja_journal.proofs.Ledger.Judging.{kept_stored}
 use Rattle.sja_link.proofs.Ledger.LongMessages.{head_long}
 use Rattle.sja_link.proofs.JournalEntries.Counting.{messages_few}
 use Rattle.sja_link.proofs.JournalEntries.ListCounts.{messages_both}
 use Rattle.sja_link.specs.World.{is_off, bytes_of}
-use Rattle.sja_driver.specs.Deeds.{Deed, Gives, given_in, released_lengths, deeds_of}
+use Rattle.sja_driver.specs.TypedActs.{TypedAct, Gives, given_in, released_lengths, acts_of}
 use Rattle.sja_driver.proofs.Step.Few.{all_of, room_all, bytes_stored, credits_taken, credits_section, bytes_lengths}
 
 -- ---- a message has at least 3 bytes, whatever frame it is of
@@ -83,14 +83,14 @@ all_messages put got down on whole =
 
 -- ---- all together: what was put and isn't released fits in 64 bytes
 
-pub few_left_down : (j : List Entry) (a : ℕ) (frames : List ReceivedFrame) (deeds : List Deed) (got down : List Down)
+pub few_left_down : (j : List Entry) (a : ℕ) (frames : List ReceivedFrame) (acts : List TypedAct) (got down : List Down)
     (up : List Up) (released window : List (List ℕ)) → HasVerdicts j frames →
     total is_off (put_of (part j a)) ≡ 0 →
     put_of (part j a) ≡ got ++ down → Holds got released window →
-    given_in (deeds_of deeds a) ≡ taken_of (part j a) ++ up →
-    EachAfter (λ b (d : Deed). Gives d.step d.answer d.gave) [] deeds →
-    released_lengths (deeds_of deeds a) ≡ map (λ (m : List ℕ). length m) released → length down ≤ 21
-few_left_down j a frames deeds got down up released window verdicts on put holds given gives lengths =
+    given_in (acts_of acts a) ≡ taken_of (part j a) ++ up →
+    EachAfter (λ b (d : TypedAct). Gives d.step d.answer d.gave) [] acts →
+    released_lengths (acts_of acts a) ≡ map (λ (m : List ℕ). length m) released → length down ≤ 21
+few_left_down j a frames acts got down up released window verdicts on put holds given gives lengths =
     let driver : Account = record { got = got; given = [] } in
     let all : released ++ (window ++ messages down) ≡ stored_of (part j a) =
     told_stored j a driver down released window put holds in
@@ -103,7 +103,7 @@ few_left_down j a frames deeds got down up released window verdicts on put holds
     let rest = total_append (λ (m : List ℕ). length m) window (messages down) in
     let taken = credits_taken (part j a) in
     let credits = sym (total_append credit_of (taken_of (part j a)) up) ∙ ap (total credit_of) (sym given)
-    ∙ credits_section 0 [] deeds a gives ∙ ap all_of lengths ∙ sym (bytes_lengths released) in
+    ∙ credits_section 0 [] acts a gives ∙ ap all_of lengths ∙ sym (bytes_lengths released) in
     let enough = long_bytes (messages down) long in
     let whole = all_messages (put_of (part j a)) got down on put in
     omega (arith, room, stored, rest, taken, credits, enough, whole)

@@ -1,21 +1,21 @@
--- What a deed gives: nothing, or a start, a credit, a request or a stop.
+-- What an act gives: nothing, or a start, a credit, a request or a stop.
 use Rattle.std.proofs.Common.{◌≡◌, ℕ, ◌+◌, ◌<◌, ◌≤◌, Bool, true, false, List, [], ◌∷◌, refl, arith}
 use Rattle.std.specs.Prelude.{◌^◌, nat_lt, if◌then◌else◌}
 use Rattle.std.proofs.lemmas.Bool.{ltb-true}
-use Rattle.can_node.specs.declared.config.Config.{Config}
-use Rattle.can_node.specs.declared.request.Request.{Request}
-use Rattle.sja_link.specs.Sizes.{most_activations}
-use Rattle.sja_link.specs.declared.up.Up.{Up}
-use Rattle.sja_link.specs.declared.up.Up.TheVariants.{Start as StartItem, Credit, Send as SendItem, Stop as StopItem}
+use Rattle.can_node_rules.specs.declared.config.Config.{Config}
+use Rattle.can_node_rules.specs.declared.request.Request.{Request}
+use Rattle.sja_journal.specs.Sizes.{most_activations}
+use Rattle.sja_journal.specs.declared.up.Up.{Up}
+use Rattle.sja_journal.specs.declared.up.Up.TheVariants.{Start as StartItem, Credit, Send as SendItem, Stop as StopItem}
 use Rattle.sja_regs.specs.Commands.{command_of, requests}
-use Rattle.sja_script.specs.declared.step.Step.{Step}
-use Rattle.sja_script.specs.declared.step.Step.TheVariants.{Start, Stop, Window, Release, Read, Write, Load, Command}
-use Rattle.sja_script.specs.declared.step.Step.TheVariants.{Await, Sent, Interrupt, At}
-use Rattle.sja_script.specs.declared.refusal.Refusal.TheVariants.{NoActivationLeft}
-use Rattle.sja_script.specs.declared.step_answer.StepAnswer.{StepAnswer}
-use Rattle.sja_script.specs.declared.step_answer.StepAnswer.TheVariants.{Done as DoneAnswer, NoMessage, Shown, Released}
-use Rattle.sja_script.specs.declared.step_answer.StepAnswer.TheVariants.{Value, Refused, Ignored}
-use Rattle.sja_driver.specs.Deeds.{opened, active_after, FitsState, GivesSend, Gives}
+use Rattle.sja_steps.specs.declared.step.Step.{Step}
+use Rattle.sja_steps.specs.declared.step.Step.TheVariants.{Start, Stop, Window, Release, Read, Write, Load, Command}
+use Rattle.sja_steps.specs.declared.step.Step.TheVariants.{Await, Sent, Interrupt, At}
+use Rattle.sja_steps.specs.declared.refusal.Refusal.TheVariants.{NoActivationLeft}
+use Rattle.sja_steps.specs.declared.step_answer.StepAnswer.{StepAnswer}
+use Rattle.sja_steps.specs.declared.step_answer.StepAnswer.TheVariants.{Done as DoneAnswer, NoMessage, Shown, Released}
+use Rattle.sja_steps.specs.declared.step_answer.StepAnswer.TheVariants.{Value, Refused, Ignored}
+use Rattle.sja_driver.specs.TypedActs.{opened, active_after, FitsState, GivesSend, Gives}
 
 -- from a driver that is active or isn't, and has opened so many activations
 pub data Kind (active : Bool) (n : ℕ) (s : Step) (r : StepAnswer) (gave : List Up) : Type 0 where

@@ -1,15 +1,15 @@
 -- What is put on a link, and which item of it a driver gets next.
 use Rattle.std.proofs.Common.{◌≡◌, ℕ, ◌≤◌, List, [], ◌∷◌, ◌++◌, length, map, refl, sym, ap, ◌∙◌, arith}
-use Rattle.sja_link.specs.declared.down.Down.{Down}
-use Rattle.sja_link.specs.declared.down.Down.TheVariants.{Message, Off as OffDown}
-use Rattle.sja_link.specs.declared.up.Up.{Up}
-use Rattle.sja_link.specs.declared.entry.Entry.{Entry}
-use Rattle.sja_link.specs.Carried.{put_of}
-use Rattle.sja_link.specs.Free.{credit_of, bytes_in}
+use Rattle.sja_journal.specs.declared.down.Down.{Down}
+use Rattle.sja_journal.specs.declared.down.Down.TheVariants.{Message, Off as OffDown}
+use Rattle.sja_journal.specs.declared.up.Up.{Up}
+use Rattle.sja_journal.specs.declared.entry.Entry.{Entry}
+use Rattle.sja_journal.specs.Carried.{put_of}
+use Rattle.sja_journal.specs.Free.{credit_of, bytes_in}
 use Rattle.lemmas.specs.Gathering.{total}
-use Rattle.sja_link.specs.Lists.{messages}
+use Rattle.sja_journal.specs.Lists.{messages}
 use Rattle.sja_link.specs.World.{is_off, bytes_of, credits_of}
-use Rattle.sja_link.proofs.Ledger.Judging.{put_stored}
+use Rattle.sja_journal.proofs.Ledger.Judging.{put_stored}
 use Rattle.sja_driver.proofs.Step.Few.{all_of, bytes_stored, bytes_lengths, credits_sum}
 
 -- ---- bytes

@@ -2,16 +2,16 @@
 -- interrupt line.
 use Rattle.std.proofs.Common.{◌≡◌, ℕ, Bool, true, false, [], refl, sym, ap, ◌∙◌, subst, add-zero}
 use Rattle.sja_link.specs.declared.link_id.LinkId.{LinkId}
-use Rattle.sja_link.specs.Lists.{Lists, on, is_on, same_on, OthersStand}
+use Rattle.sja_journal.specs.Lists.{Lists, on, is_on, same_on, OthersStand}
 use Rattle.sja_regs.specs.declared.registers.Registers.{Registers}
-use Rattle.sja_script.specs.declared.step.Step.TheVariants.{Interrupt}
-use Rattle.sja_script.specs.declared.step_answer.StepAnswer.{StepAnswer}
+use Rattle.sja_steps.specs.declared.step.Step.TheVariants.{Interrupt}
+use Rattle.sja_steps.specs.declared.step_answer.StepAnswer.{StepAnswer}
 use Rattle.sja_driver.specs.declared.any_driver.AnyDriver.{AnyDriver}
 use Rattle.sja_driver.specs.declared.any_driver.AnyDriver.TheVariants.{InReset, InActive}
 use Rattle.sja_driver.specs.Acting.{ActsOn, Does, Looks, IfOut}
 use Rattle.sja_driver.specs.AnyDrivers.{IsDriverOf, is_out, held_of, off_of, opened_of, seen_by, link_used}
 use Rattle.sja_driver.specs.Carried.{Tells}
-use Rattle.sja_driver.specs.Deeds.{FitsState}
+use Rattle.sja_driver.specs.TypedActs.{FitsState}
 use Rattle.sja_driver.specs.Drivers.{activation_in, held_in, off_in}
 use Rattle.sja_driver.specs.Observing.{Observes}
 use Rattle.sja_driver.specs.Tries.{IsQuiet}

@@ -1,13 +1,12 @@
 -- A try of a release: the ledger's release, by what it answered.
 use Rattle.std.proofs.Common.{◌≡◌, ◌+◌, ℕ, Bool, false, List, [], ◌∷◌, ◌++◌, length, refl, sym, ap, ◌∙◌, subst}
 use Rattle.std.proofs.Common.{add-zero, append-nil}
-use Rattle.sja_link.specs.declared.up.Up.{Up}
-use Rattle.sja_link.specs.Lists.{Lists}
-use Rattle.sja_link.specs.Looking.{Pulls, IsTaken, Releases, Refuses, with_gots}
+use Rattle.sja_journal.specs.declared.up.Up.{Up}
+use Rattle.sja_journal.specs.Lists.{Lists}
+use Rattle.sja_link.specs.Looking.{Pulls, Releases, Refuses, with_gots}
 use Rattle.sja_regs.specs.declared.registers.Registers.{Registers}
-use Rattle.sja_script.specs.declared.refusal.Refusal.{Refusal}
-use Rattle.sja_script.specs.declared.step.Step.TheVariants.{Release}
-use Rattle.sja_script.specs.declared.step_answer.StepAnswer.TheVariants.{Refused, Released as ReleasedAnswer}
+use Rattle.sja_steps.specs.declared.step.Step.TheVariants.{Release}
+use Rattle.sja_steps.specs.declared.step_answer.StepAnswer.TheVariants.{Released as ReleasedAnswer}
 use Rattle.sja_driver.specs.declared.active.Active.{Active}
 use Rattle.sja_driver.specs.declared.any_driver.AnyDriver.TheVariants.{InActive}
 use Rattle.sja_driver.specs.declared.driver.Driver.{Driver}
@@ -15,7 +14,7 @@ use Rattle.sja_driver.specs.Acting.{Acts, Does}
 use Rattle.sja_driver.specs.AnyDrivers.{IsDriverOf}
 use Rattle.sja_driver.specs.Carried.{Sees}
 use Rattle.sja_driver.specs.Drivers.{link_in, held_in, off_in}
-use Rattle.sja_driver.specs.Tries.Tried.{Unmet, Answered, Released}
+use Rattle.sja_driver.specs.Tries.Tried.{Unmet, Released}
 
 -- items got and nothing given
 pub does_pull : {E : Type 0} (stands : E → Lists → Type 0) (old new : E) (held now_held : List (List ℕ))
@@ -77,27 +76,6 @@ module _ {E : Type 0} (alike : E → E → Type 0) (stands : E → Lists → Typ
     kind = tt;
     out = refl;
     opens = ap (λ i. i.activation) same;
-    place = stays d e same;
-    quiet = tt;
-  }
-
-  -- there was none to release, by the window
-  pub refused_acts : (refusal : Refusal) → alike old new → Sees Release (off_in e) (held_in e) (Refused refusal) →
-      IsTaken dry new (off_in e) (held_in e) → Pulls stands old new (held_in d) (held_in e) (off_in d) (off_in e) →
-      (p : Registers) →
-      Acts alike stands dry full old new p p Release (InActive d) (InActive e) (Answered (Refused refusal))
-  refused_acts refusal alike_now sees all pulls p = record {
-    does = does_pull stands old new (held_in d) (held_in e) (off_in d) (off_in e) pulls;
-    still = tt;
-    port = refl;
-    fits = tt;
-    sees = sees;
-    tells = tt;
-    looks = record { at = new; same = alike_now; pulls = pulls; all = all };
-    waits = tt;
-    kind = refl;
-    out = refl;
-    opens = ap (λ i. i.activation) same ∙ sym (add-zero _);
     place = stays d e same;
     quiet = tt;
   }

@@ -2,12 +2,12 @@
 use Rattle.std.proofs.Common.{◌≡◌, ◌+◌, ℕ, Bool, true, false, List, [], ◌++◌, refl, sym, ap, ◌∙◌, subst, add-zero}
 use Rattle.std.proofs.Common.{append-nil}
 use Rattle.std.specs.Prelude.{Result, Ok, Err}
-use Rattle.sja_link.specs.Lists.{Lists}
+use Rattle.sja_journal.specs.Lists.{Lists}
 use Rattle.sja_regs.specs.declared.reg_fault.RegFault.{RegFault}
 use Rattle.sja_regs.specs.declared.registers.Registers.{Registers}
 use Rattle.sja_regs.specs.Refusals.{fault_of}
-use Rattle.sja_script.specs.declared.step.Step.TheVariants.{Write}
-use Rattle.sja_script.specs.declared.step_answer.StepAnswer.{StepAnswer}
+use Rattle.sja_steps.specs.declared.step.Step.TheVariants.{Write}
+use Rattle.sja_steps.specs.declared.step_answer.StepAnswer.{StepAnswer}
 use Rattle.sja_driver.specs.declared.any_driver.AnyDriver.{AnyDriver}
 use Rattle.sja_driver.specs.declared.any_driver.AnyDriver.TheVariants.{InReset, InActive}
 use Rattle.sja_driver.specs.Acting.{Acts, Does, IfOut}
@@ -16,7 +16,7 @@ use Rattle.sja_driver.specs.Answers.{done_unless}
 use Rattle.sja_driver.specs.Inside.Attempts.{done_answer}
 use Rattle.sja_driver.specs.Calls.{Writes}
 use Rattle.sja_driver.specs.Carried.{ported}
-use Rattle.sja_driver.specs.Deeds.{FitsState}
+use Rattle.sja_driver.specs.TypedActs.{FitsState}
 use Rattle.sja_driver.specs.Giving.{IsGiven}
 use Rattle.sja_driver.specs.Tries.{IsQuiet}
 use Rattle.sja_driver.specs.Tries.Tried.{Answered}

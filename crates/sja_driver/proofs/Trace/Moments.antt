@@ -1,8 +1,8 @@
 -- A journal as it is now, seen later.
 use Rattle.std.proofs.Common.{◌≡◌, ◌≤◌, ◌∙◌, ℕ, zero, suc, List, [], ◌∷◌, ◌++◌, length, refl, ap, arith}
-use Rattle.sja_link.specs.declared.entry.Entry.{Entry}
-use Rattle.sja_link.specs.declared.entry.Entry.TheVariants.{Bit, Up as Item, Abort, Stored, Overrun, Off}
-use Rattle.sja_link.specs.Carried.{bits_of, taken_of}
+use Rattle.sja_journal.specs.declared.entry.Entry.{Entry}
+use Rattle.sja_journal.specs.declared.entry.Entry.TheVariants.{Bit, Up as Item, Abort, Stored, Overrun, Off}
+use Rattle.sja_journal.specs.Carried.{bits_of, taken_of}
 use Rattle.sja_driver.specs.Moments.{at_moment}
 
 -- each abort is followed by a bit

@@ -1,71 +1,72 @@
--- Deeds of a driver, with one more, beside the journal.
+-- Acts of a driver, with one more, beside the journal.
 use Rattle.std.proofs.Common.{◌≡◌, ◌≢◌, ℕ, ◌+◌, ◌<◌, ◌≤◌, ◌⊎◌, Bool, true, false, List, [], ◌∷◌, ◌++◌, map, refl, sym}
 use Rattle.std.proofs.Common.{ap, ap₂, ◌∙◌, subst, append_assoc, append-nil, arith, inl, inr}
 use Rattle.std.specs.Prelude.{◌==◌, if◌then◌else◌}
 use Rattle.std.proofs.lemmas.Bool.{cases_eq, cases_lt, eq-eqb, ne_eqb}
 use Rattle.std.proofs.lemmas.List.{map-append}
-use Rattle.sja_link.specs.declared.up.Up.{Up}
-use Rattle.sja_link.specs.declared.entry.Entry.{Entry}
+use Rattle.sja_journal.specs.declared.up.Up.{Up}
+use Rattle.sja_journal.specs.declared.entry.Entry.{Entry}
 use Rattle.lemmas.specs.Gathering.{total, gathered}
 use Rattle.lemmas.specs.Picking.{EachAfter}
-use Rattle.sja_link.specs.Places.{Placed, placed, activation_of, place_of}
-use Rattle.sja_link.specs.Parts.{in_part, entry_at, part}
-use Rattle.sja_link.specs.Carried.{taken_in, taken_of}
+use Rattle.sja_journal.specs.Places.{Placed, placed, activation_of, place_of}
+use Rattle.sja_journal.specs.Parts.{in_part, entry_at, part}
+use Rattle.sja_journal.specs.Carried.{taken_in, taken_of}
 use Rattle.lemmas.proofs.Gathered.{gathered_append}
 use Rattle.lemmas.proofs.Lists.{none_front}
-use Rattle.sja_link.proofs.JournalEntries.Entering.{of_part_later}
-use Rattle.sja_script.specs.declared.step.Step.{Step}
-use Rattle.sja_script.specs.declared.step.Step.TheVariants.{Start, Stop, Window, Release, Read, Write, Load, Command}
-use Rattle.sja_script.specs.declared.step.Step.TheVariants.{Await, Sent, Interrupt, At}
-use Rattle.sja_script.specs.declared.step_answer.StepAnswer.{StepAnswer}
-use Rattle.sja_script.specs.declared.step_answer.StepAnswer.TheVariants.{Done as DoneAnswer, NoMessage, Shown, Released}
-use Rattle.sja_script.specs.declared.step_answer.StepAnswer.TheVariants.{Value, Refused, Ignored}
-use Rattle.sja_driver.specs.Deeds.{Deed, opened, opens_by, opened_by, Gives, given_in, section_from, deeds_of}
-use Rattle.sja_driver.proofs.LogOfSteps.Sections.{deeds_push}
+use Rattle.sja_journal.proofs.JournalEntries.Entering.{of_part_later}
+use Rattle.sja_steps.specs.declared.step.Step.{Step}
+use Rattle.sja_steps.specs.declared.step.Step.TheVariants.{Start, Stop, Window, Release, Read, Write, Load, Command}
+use Rattle.sja_steps.specs.declared.step.Step.TheVariants.{Await, Sent, Interrupt, At}
+use Rattle.sja_steps.specs.declared.step_answer.StepAnswer.{StepAnswer}
+use Rattle.sja_steps.specs.declared.step_answer.StepAnswer.TheVariants.{Done as DoneAnswer, NoMessage, Shown, Released}
+use Rattle.sja_steps.specs.declared.step_answer.StepAnswer.TheVariants.{Value, Refused, Ignored}
+use Rattle.sja_driver.specs.TypedActs.{TypedAct, opened, opens_by, opened_by, Gives, given_in, section_from, acts_of}
+use Rattle.sja_driver.proofs.LogOfSteps.Sections.{acts_push}
 use Rattle.sja_driver.specs.Timing.{Timed, timed, given_when, taken_when}
 use Rattle.sja_driver.proofs.Trace.Waiting.{WaitsInTime}
 
--- ---- a deed more
+-- ---- an act more
 
--- whether a deed stands in an activation
-abbrev pub stands_in : List Deed → Deed → ℕ → Bool
-stands_in deeds d a = (opened_by deeds + opens_by d) == a
+-- whether an act stands in an activation
+abbrev pub stands_in : List TypedAct → TypedAct → ℕ → Bool
+stands_in acts d a = (opened_by acts + opens_by d) == a
 
-given_one : {B : Type 0} (f : Deed → List B) (d : Deed) (b : Bool) →
+given_one : {B : Type 0} (f : TypedAct → List B) (d : TypedAct) (b : Bool) →
     gathered f (if b then d ∷ [] else []) ≡ (if b then f d else [])
 given_one f d true = append-nil (f d)
 given_one f d false = refl
 
 -- what a driver gave in an activation
-pub given_push : (deeds : List Deed) (d : Deed) (a : ℕ) →
-    given_in (deeds_of (deeds ++ d ∷ []) a) ≡ given_in (deeds_of deeds a)
-    ++ (if stands_in deeds d a then d.gave else [])
-given_push deeds d a =
-    ap given_in (deeds_push deeds d a) ∙ gathered_append (λ (x : Deed). x.gave) (deeds_of deeds a)
-    (if stands_in deeds d a then d ∷ [] else [])
-    ∙ ap (λ l. given_in (deeds_of deeds a) ++ l) (given_one (λ (x : Deed). x.gave) d (stands_in deeds d a))
+pub given_push : (acts : List TypedAct) (d : TypedAct) (a : ℕ) →
+    given_in (acts_of (acts ++ d ∷ []) a) ≡ given_in (acts_of acts a)
+    ++ (if stands_in acts d a then d.gave else [])
+given_push acts d a =
+    ap given_in (acts_push acts d a) ∙ gathered_append (λ (x : TypedAct). x.gave) (acts_of acts a)
+    (if stands_in acts d a then d ∷ [] else [])
+    ∙ ap (λ l. given_in (acts_of acts a) ++ l) (given_one (λ (x : TypedAct). x.gave) d (stands_in acts d a))
 
-pub when_push : (deeds : List Deed) (d : Deed) (a : ℕ) →
-    given_when (deeds ++ d ∷ []) a ≡ given_when deeds a
-    ++ (if stands_in deeds d a then map (timed d.bits) d.gave else [])
-when_push deeds d a =
-    let f : Deed → List Timed = λ x. map (timed x.bits) x.gave in
-    ap (gathered f) (deeds_push deeds d a) ∙ gathered_append f (deeds_of deeds a)
-    (if stands_in deeds d a then d ∷ [] else [])
-    ∙ ap (λ l. given_when deeds a ++ l) (given_one f d (stands_in deeds d a))
+pub when_push : (acts : List TypedAct) (d : TypedAct) (a : ℕ) →
+    given_when (acts ++ d ∷ []) a ≡ given_when acts a
+    ++ (if stands_in acts d a then map (timed d.bits) d.gave else [])
+when_push acts d a =
+    let f : TypedAct → List Timed = λ x. map (timed x.bits) x.gave in
+    ap (gathered f) (acts_push acts d a) ∙ gathered_append f (acts_of acts a)
+    (if stands_in acts d a then d ∷ [] else [])
+    ∙ ap (λ l. given_when acts a ++ l) (given_one f d (stands_in acts d a))
 
 -- ---- items in time
 
 -- a step of the driver, done after the bits that have run: what it gave waits
-pub timely_deed : (deeds : List Deed) (d : Deed) (j : List Entry) (a : ℕ) (up : List Up) → d.bits ≡ (place_of j).bits →
-    WaitsInTime (given_when deeds a) j a up →
-    WaitsInTime (given_when (deeds ++ d ∷ []) a) j a (up ++ (if stands_in deeds d a then d.gave else []))
-timely_deed deeds d j a up now h =
-    when_push deeds d a
-    ∙ ap₂ (λ x y. x ++ y) h (ap (λ n. if stands_in deeds d a then map (timed n) d.gave else []) now)
+pub timely_act : (acts : List TypedAct) (d : TypedAct) (j : List Entry) (a : ℕ) (up : List Up) →
+    d.bits ≡ (place_of j).bits →
+    WaitsInTime (given_when acts a) j a up →
+    WaitsInTime (given_when (acts ++ d ∷ []) a) j a (up ++ (if stands_in acts d a then d.gave else []))
+timely_act acts d j a up now h =
+    when_push acts d a
+    ∙ ap₂ (λ x y. x ++ y) h (ap (λ n. if stands_in acts d a then map (timed n) d.gave else []) now)
     ∙ append_assoc (taken_when j a) (map (timed (place_of j).bits) up)
-    (if stands_in deeds d a then map (timed (place_of j).bits) d.gave else [])
-    ∙ ap (λ l. taken_when j a ++ l) (one (stands_in deeds d a))
+    (if stands_in acts d a then map (timed (place_of j).bits) d.gave else [])
+    ∙ ap (λ l. taken_when j a ++ l) (one (stands_in acts d a))
   where
     one : (b : Bool) → map (timed (place_of j).bits) up
         ++ (if b then map (timed (place_of j).bits) d.gave else []) ≡ map (timed (place_of j).bits)
@@ -75,19 +76,16 @@ timely_deed deeds d j a up now h =
 
 -- ---- the same items without their times
 
-items_of : List Timed → List Up
-items_of ts = map (λ (t : Timed). t.item) ts
-
 items_back : (n : ℕ) (us : List Up) → map (λ (t : Timed). t.item) (map (timed n) us) ≡ us
 items_back n [] = refl
 items_back n (u ∷ us) = ap (λ l. u ∷ l) (items_back n us)
 
-items_given : (ds : List Deed) → map (λ (t : Timed). t.item)
-    (gathered (λ (d : Deed). map (timed d.bits) d.gave) ds) ≡ given_in ds
+items_given : (ds : List TypedAct) → map (λ (t : Timed). t.item)
+    (gathered (λ (d : TypedAct). map (timed d.bits) d.gave) ds) ≡ given_in ds
 items_given [] = refl
 items_given (d ∷ ds) =
     map-append (λ (t : Timed). t.item) (map (timed d.bits) d.gave)
-    (gathered (λ (x : Deed). map (timed x.bits) x.gave) ds)
+    (gathered (λ (x : TypedAct). map (timed x.bits) x.gave) ds)
     ∙ ap₂ (λ x y. x ++ y) (items_back d.bits d.gave) (items_given ds)
 
 items_taken : (j : List Entry) (a : ℕ) → map (λ (t : Timed). t.item) (taken_when j a) ≡ taken_of (part j a)
@@ -110,17 +108,9 @@ items_taken j a = over (placed j)
         ∙ sym (gathered_append taken_in (in_part entry_at a q) (gathered (in_part entry_at a) qs))
 
 -- what was given in time is what was taken
-pub given_taken : (deeds : List Deed) (j : List Entry) (a : ℕ) → given_when deeds a ≡ taken_when j a →
-    given_in (deeds_of deeds a) ≡ taken_of (part j a)
-given_taken deeds j a h = sym (items_given (deeds_of deeds a)) ∙ ap (map (λ (t : Timed). t.item)) h ∙ items_taken j a
-
--- while items wait, the upward half of what a link of two queues keeps
-pub given_lies : (deeds : List Deed) (j : List Entry) (a : ℕ) (up : List Up) → WaitsInTime (given_when deeds a) j a up →
-    given_in (deeds_of deeds a) ≡ taken_of (part j a) ++ up
-given_lies deeds j a up h =
-    sym (items_given (deeds_of deeds a)) ∙ ap (map (λ (t : Timed). t.item)) h
-    ∙ map-append (λ (t : Timed). t.item) (taken_when j a) (map (timed (place_of j).bits) up)
-    ∙ ap₂ (λ x y. x ++ y) (items_taken j a) (items_back (place_of j).bits up)
+pub given_taken : (acts : List TypedAct) (j : List Entry) (a : ℕ) → given_when acts a ≡ taken_when j a →
+    given_in (acts_of acts a) ≡ taken_of (part j a)
+given_taken acts j a h = sym (items_given (acts_of acts a)) ∙ ap (map (λ (t : Timed). t.item)) h ∙ items_taken j a
 
 -- ---- every activation that a driver opened has begun in the journal
 
@@ -145,7 +135,7 @@ opening Sent r gave h = inl refl
 opening Interrupt r gave h = inl refl
 opening (At bits) r gave h = inl refl
 
-some_given : (n : ℕ) (before ds : List Deed) (a : ℕ) → EachAfter (λ b d. Gives d.step d.answer d.gave) before ds →
+some_given : (n : ℕ) (before ds : List TypedAct) (a : ℕ) → EachAfter (λ b d. Gives d.step d.answer d.gave) before ds →
     n < a → a ≤ n + total opens_by ds →
     given_in (section_from opens_by n ds a) ≢ []
 some_given n before [] a gives less most none = omega (arith, less, most)
@@ -166,10 +156,10 @@ some_given n before (d ∷ ds) a gives less most none =
           (subst P (ne_eqb (n + opens_by d) a m) none)
     ]
 
-pub opened_begun : (deeds : List Deed) (j : List Entry) → EachAfter (λ b d. Gives d.step d.answer d.gave) [] deeds →
-    ((a : ℕ) → given_in (deeds_of deeds a) ≡ taken_of (part j a)) → opened_by deeds ≤ (place_of j).activation
-opened_begun deeds j gives same = elim (cases_lt (place_of j).activation (opened_by deeds)) [
-  | inl late ↦ absurd (some_given 0 [] deeds (opened_by deeds) gives (omega (arith, late)) (omega arith)
-      (same (opened_by deeds) ∙ ap taken_of (of_part_later entry_at j (opened_by deeds) late)))
+pub opened_begun : (acts : List TypedAct) (j : List Entry) → EachAfter (λ b d. Gives d.step d.answer d.gave) [] acts →
+    ((a : ℕ) → given_in (acts_of acts a) ≡ taken_of (part j a)) → opened_by acts ≤ (place_of j).activation
+opened_begun acts j gives same = elim (cases_lt (place_of j).activation (opened_by acts)) [
+  | inl late ↦ absurd (some_given 0 [] acts (opened_by acts) gives (omega (arith, late)) (omega arith)
+      (same (opened_by acts) ∙ ap taken_of (of_part_later entry_at j (opened_by acts) late)))
   | inr in_time ↦ omega (arith, in_time)
 ]

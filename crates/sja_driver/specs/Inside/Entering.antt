@@ -1,6 +1,6 @@
 -- What is entered in the log of what came of a try.
 use Rattle.std.specs.Prelude.{◌≡◌, ◌<◌, ◌++◌, ℕ, Option, length}
-use Rattle.sja_script.specs.declared.step_answer.StepAnswer.{StepAnswer}
+use Rattle.sja_steps.specs.declared.step_answer.StepAnswer.{StepAnswer}
 use Rattle.sja_driver.specs.declared.work_log.WorkLog.{WorkLog}
 use Rattle.sja_driver.specs.Logs.{releases_in, left_in, release_room, left_room, releases_by, left_by}
 use Rattle.sja_driver.specs.Tries.{Tried, answer_of}

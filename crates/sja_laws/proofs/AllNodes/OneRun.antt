@@ -3,25 +3,25 @@ use Rattle.std.proofs.Common.{◌≡◌, ◌<◌, ℕ, List, [], ◌∷◌, ◌+
 use Rattle.std.proofs.Common.{append-nil}
 use Rattle.std.specs.Prelude.{slice_index_or}
 use Rattle.std.proofs.lemmas.List.{ext_get_or}
-use Rattle.can_bits.specs.declared.level.Level.TheVariants.{Recessive}
-use Rattle.can_node.specs.Bits.{Bit as Levels, recessive_bit}
+use Rattle.can_levels.specs.declared.level.Level.TheVariants.{Recessive}
+use Rattle.can_node_rules.specs.Bits.{Bit as Levels, recessive_bit}
 use Rattle.lemmas.proofs.Gathered.{gathered_append}
-use Rattle.sja_link.specs.declared.entry.Entry.{Entry}
-use Rattle.sja_link.specs.declared.entry.Entry.TheVariants.{Bit}
-use Rattle.sja_link.specs.BitEntries.{abort_as, judged_as, off_as}
-use Rattle.sja_link.specs.Carried.{bit_in, bits_of}
-use Rattle.sja_link.specs.Places.{JournalPlace, place_of}
-use Rattle.sja_link.proofs.JournalEntries.Entering.{bits_counted}
+use Rattle.sja_journal.specs.declared.entry.Entry.{Entry}
+use Rattle.sja_journal.specs.declared.entry.Entry.TheVariants.{Bit}
+use Rattle.sja_journal.specs.BitEntries.{abort_as, judged_as, off_as}
+use Rattle.sja_journal.specs.Carried.{bit_in, bits_of}
+use Rattle.sja_journal.specs.Places.{JournalPlace, place_of}
+use Rattle.sja_journal.proofs.JournalEntries.Entering.{bits_counted}
 use Rattle.sja_regs.specs.Registers.{at_power_on}
 use Rattle.sja_regs.specs.declared.registers.Registers.{Registers}
-use Rattle.sja_wire.specs.Wire.{bit_at, journal_at}
-use Rattle.sja_driver.specs.Deeds.{Deed}
+use Rattle.sja_bus_rules.specs.Wire.{bit_at, journal_at}
+use Rattle.sja_driver.specs.TypedActs.{TypedAct}
 use Rattle.sja_driver.proofs.OneBit.BitAsked.{place_abort}
-use Rattle.sja_log.specs.Registering.{IsPortBit}
-use Rattle.sja_log.proofs.NodeLog.Onward.{bits_bit}
+use Rattle.sja_promises.specs.Registering.{IsPortBit}
+use Rattle.sja_promises.proofs.NodeLog.Onward.{bits_bit}
 use Rattle.sja_serial.specs.Bits.{TakesBit}
 use Rattle.sja_serial.specs.Serial.{Setup, SerialValue}
-use Rattle.sja_laws.specs.GoingOn.{GoesOn}
+use Rattle.sja_laws.specs.LongerJournals.{GoesOn}
 use Rattle.sja_laws.proofs.AllNodes.OneWire.{levels_once}
 use Rattle.sja_laws.proofs.Journals.LastBits.{bit_whole}
 use Rattle.sja_laws.proofs.OneNode.Coming.{at_end}
@@ -53,8 +53,8 @@ pub record AreAlike (r s : SerialValue) : Type 0 where
   pub ports : r.ports ≡ s.ports
   pub bits : r.bits ≡ s.bits
 
-module _ {setup : Setup} {deeds others : List (List Deed)} {r s n m : SerialValue} (alike : AreAlike r s)
-    (a : TakesBit setup deeds r n) (b : TakesBit setup others s m) where
+module _ {setup : Setup} {acts others : List (List TypedAct)} {r s n m : SerialValue} (alike : AreAlike r s)
+    (a : TakesBit setup acts r n) (b : TakesBit setup others s m) where
   abbrev port_in : List Registers → ℕ → Registers
   port_in ports k = slice_index_or ports k (at_power_on 1)
 

@@ -1,11 +1,12 @@
 -- What all nodes drive and which of them are struck says what each sees.
 use Rattle.std.proofs.Common.{◌≡◌, ◌<◌, ℕ, suc, List, [], ◌∷◌, length, refl, sym, ap, ◌∙◌, subst, arith}
-use Rattle.can_bits.specs.declared.level.Level.{Level}
-use Rattle.can_bits.specs.declared.level.Level.TheVariants.{Dominant, Recessive}
-use Rattle.sja_link.specs.declared.entry.Entry.{Entry}
-use Rattle.sja_script.specs.declared.strike.Strike.{Strike}
-use Rattle.sja_script.specs.Striking.{Strikes}
-use Rattle.sja_wire.specs.Wire.{IsSeen, IsWired, bit_at, driven_at, journal_at, wired}
+use Rattle.can_levels.specs.declared.level.Level.{Level}
+use Rattle.can_levels.specs.declared.level.Level.TheVariants.{Dominant, Recessive}
+use Rattle.sja_journal.specs.declared.entry.Entry.{Entry}
+use Rattle.sja_steps.specs.declared.strike.Strike.{Strike}
+use Rattle.sja_steps.specs.Striking.{Strikes}
+use Rattle.can_levels.specs.BusLevel.{wired}
+use Rattle.sja_bus_rules.specs.Wire.{IsSeen, IsWired, bit_at, driven_at, journal_at}
 
 -- levels that can't differ don't
 not_apart : (x y : Level) → ((x ≡ y → ⊥) → ⊥) → x ≡ y

@@ -2,15 +2,15 @@
 use Rattle.std.proofs.Common.{◌≡◌, ◌+◌, ℕ, suc, Bool, true, false, Option, Some, None, List, [], ◌∷◌, ◌++◌, length}
 use Rattle.std.proofs.Common.{refl, sym, ap, ◌∙◌, append_assoc, arith}
 use Rattle.std.proofs.lemmas.List.{length-append}
-use Rattle.can_bits.specs.declared.level.Level.{Level}
+use Rattle.can_levels.specs.declared.level.Level.{Level}
 use Rattle.lemmas.proofs.Gathered.{gathered_append}
-use Rattle.sja_link.specs.NodeWords.{NodeBit}
-use Rattle.sja_link.specs.declared.entry.Entry.{Entry}
-use Rattle.sja_link.specs.declared.entry.Entry.TheVariants.{Bit}
-use Rattle.sja_link.specs.declared.verdict.Verdict.{Verdict}
-use Rattle.sja_link.specs.declared.verdict.Verdict.TheVariants.{Stored as ToStore, Overrun as ToLose}
-use Rattle.sja_link.specs.BitEntries.{HasBit, judged_as, off_as}
-use Rattle.sja_link.specs.Carried.{bit_in, bits_of}
+use Rattle.sja_journal.specs.NodeWords.{NodeBit}
+use Rattle.sja_journal.specs.declared.entry.Entry.{Entry}
+use Rattle.sja_journal.specs.declared.entry.Entry.TheVariants.{Bit}
+use Rattle.sja_journal.specs.declared.verdict.Verdict.{Verdict}
+use Rattle.sja_journal.specs.declared.verdict.Verdict.TheVariants.{Stored as ToStore, Overrun as ToLose}
+use Rattle.sja_journal.specs.BitEntries.{HasBit, judged_as, off_as}
+use Rattle.sja_journal.specs.Carried.{bit_in, bits_of}
 
 -- ---- behind the bit there is no other
 

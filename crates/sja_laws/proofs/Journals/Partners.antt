@@ -1,16 +1,16 @@
 -- Frames and verdicts beside each other.
 use Rattle.std.proofs.Common.{◌≡◌, inl, inr, Option, Some, None, List, [], ◌∷◌, ◌++◌, refl, sym, ap, ◌∙◌, subst}
 use Rattle.can_frame.specs.Frame.{FrameValue}
-use Rattle.can_node.specs.Context.{fresh}
-use Rattle.can_node.specs.Cut.{IsCut}
-use Rattle.can_node.specs.Events.{Step, received_in}
-use Rattle.can_node.specs.FinishedPieces.{Count, FinishedPiece, ReceivedFrame, none_yet, received}
-use Rattle.can_node.specs.Pieces.Place.{AtReset}
-use Rattle.can_node.specs.Record.{RecordEntry}
-use Rattle.can_node.specs.Stands.{closed_by}
-use Rattle.can_node.proofs.CutRecords.Receptions.{Among}
-use Rattle.can_node.proofs.OneCut.Longer.{received_now, received_both, received_more}
-use Rattle.can_node.proofs.OneCut.Through.{goes_through}
+use Rattle.can_node_rules.specs.Context.{fresh}
+use Rattle.can_node_rules.specs.Cut.{IsCut}
+use Rattle.can_node_rules.specs.Events.{Step, received_in}
+use Rattle.can_node_rules.specs.FinishedPieces.{Count, FinishedPiece, ReceivedFrame, none_yet, received}
+use Rattle.can_node_rules.specs.Pieces.Place.{AtReset}
+use Rattle.can_node_rules.specs.Record.{RecordEntry}
+use Rattle.can_node_rules.specs.Outcomes.{closed_by}
+use Rattle.can_node_rules.proofs.CutRecords.Receptions.{Among}
+use Rattle.can_node_rules.proofs.OneCut.Longer.{received_now, received_both, received_more}
+use Rattle.can_node_rules.proofs.OneCut.Through.{goes_through}
 use Rattle.lemmas.specs.Picking.{Picks}
 use Rattle.lemmas.specs.Picking.Picks.{nothing, picked, left}
 

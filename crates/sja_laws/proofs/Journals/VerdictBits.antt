@@ -2,16 +2,16 @@
 use Rattle.std.proofs.Common.{◌≡◌, ◌+◌, ◌<◌, ℕ, Bool, true, false, List, [], ◌∷◌, ◌++◌, refl, sym, ap, ◌∙◌, subst}
 use Rattle.std.proofs.Common.{arith}
 use Rattle.std.specs.Prelude.{◌==◌, if◌then◌else◌}
-use Rattle.can_bits.specs.declared.level.Level.{Level}
+use Rattle.can_levels.specs.declared.level.Level.{Level}
 use Rattle.lemmas.specs.Gathering.{gathered}
 use Rattle.lemmas.proofs.Gathered.{gathered_append}
-use Rattle.sja_link.specs.declared.entry.Entry.{Entry}
-use Rattle.sja_link.specs.declared.entry.Entry.TheVariants.{Bit, Up as Item, Abort, Stored, Overrun, Off}
-use Rattle.sja_link.specs.Judged.{Judged, judged_at, judged_in}
-use Rattle.sja_link.specs.Parts.{in_part}
-use Rattle.sja_link.specs.Places.{JournalPlace, Placed, first_place, past, past_all, place_of, placed, placed_from}
-use Rattle.sja_link.proofs.JournalEntries.Entering.{all_rise, item_bits, past_rises, placed_append}
-use Rattle.sja_laws.specs.GoingOn.{BringsLater}
+use Rattle.sja_journal.specs.declared.entry.Entry.{Entry}
+use Rattle.sja_journal.specs.declared.entry.Entry.TheVariants.{Bit, Up as Item, Abort, Stored, Overrun, Off}
+use Rattle.sja_journal.specs.Judged.{Judged, judged_at, judged_in}
+use Rattle.sja_journal.specs.Parts.{in_part}
+use Rattle.sja_journal.specs.Places.{JournalPlace, Placed, first_place, past, past_all, place_of, placed, placed_from}
+use Rattle.sja_journal.proofs.JournalEntries.Entering.{all_rise, item_bits, past_rises, placed_append}
+use Rattle.sja_laws.specs.LongerJournals.{BringsLater}
 use Rattle.sja_laws.proofs.Journals.Partners.{OfNone, none_both}
 
 abbrev pub StandsAfter : ℕ → Judged → Type 0

@@ -1,29 +1,29 @@
--- Registers that entries and deeds have led to: TBS is 0 exactly where the node holds a request.
+-- Registers that entries and acts have led to: TBS is 0 exactly where the node holds a request.
 use Rattle.std.proofs.Common.{◌≡◌, ℕ, Bool, true, false, List, [], ◌∷◌, ◌++◌, ap, ◌∙◌, subst, append-nil}
 use Rattle.std.specs.Prelude.{if◌then◌else◌}
-use Rattle.can_node.specs.BetweenBits.{IsBetweenBits}
-use Rattle.can_node.proofs.CutRecords.Fronts.{cut_front}
+use Rattle.can_node_rules.specs.BetweenBits.{IsBetweenBits}
+use Rattle.can_node_rules.proofs.CutRecords.Fronts.{cut_front}
 use Rattle.lemmas.specs.Picking.{EachAfter}
 use Rattle.lemmas.proofs.Picking.{each_front}
-use Rattle.sja_link.specs.NodeWords.{NodeEntry, NodeStarted, NodeStopped, NodeAsked, IsCut}
-use Rattle.sja_link.specs.declared.up.Up.{Up}
-use Rattle.sja_link.specs.declared.up.Up.TheVariants.{Start as StartItem, Credit, Send as SendItem, Stop as StopItem}
-use Rattle.sja_link.specs.declared.entry.Entry.{Entry}
-use Rattle.sja_link.specs.declared.entry.Entry.TheVariants.{Up as Item}
-use Rattle.sja_link.specs.BitEntries.{entries_of_items}
-use Rattle.sja_link.specs.Places.{place_of}
-use Rattle.sja_link.specs.Records.{told, record_of}
-use Rattle.sja_link.proofs.JournalEntries.Entering.{record_push}
+use Rattle.sja_journal.specs.NodeWords.{NodeEntry, NodeStarted, NodeStopped, NodeAsked, IsCut}
+use Rattle.sja_journal.specs.declared.up.Up.{Up}
+use Rattle.sja_journal.specs.declared.up.Up.TheVariants.{Start as StartItem, Credit, Send as SendItem, Stop as StopItem}
+use Rattle.sja_journal.specs.declared.entry.Entry.{Entry}
+use Rattle.sja_journal.specs.declared.entry.Entry.TheVariants.{Up as Item}
+use Rattle.sja_journal.specs.BitEntries.{entries_of_items}
+use Rattle.sja_journal.specs.Places.{place_of}
+use Rattle.sja_journal.specs.Records.{told, record_of}
+use Rattle.sja_journal.proofs.JournalEntries.Entering.{record_push}
 use Rattle.sja_regs.specs.declared.registers.Registers.{Registers}
 use Rattle.sja_driver.specs.Asking.{IsAsked}
-use Rattle.sja_driver.specs.Deeds.{Deed, is_active, opened_by}
+use Rattle.sja_driver.specs.TypedActs.{TypedAct, is_active, opened_by}
 use Rattle.sja_driver.proofs.OneBit.BitAsked.{HasCut}
 use Rattle.sja_driver.proofs.Step.GivenKinds.{Kind}
 use Rattle.sja_driver.proofs.Step.GivenKinds.Kind.{quiet, starts, credits, sends, stops}
-use Rattle.sja_log.specs.Registering.{LeadTo}
-use Rattle.sja_log.specs.Registering.LeadTo.{power_on, deed, bit}
-use Rattle.sja_log.proofs.OneNode.Registers.{IsPort, port_first, asked_first, kind_by, port_step, asked_step}
-use Rattle.sja_log.proofs.OneNode.RegistersInBits.{port_bit, asked_bit}
+use Rattle.sja_promises.specs.Registering.{LeadTo}
+use Rattle.sja_promises.specs.Registering.LeadTo.{power_on, act, bit}
+use Rattle.sja_promises.proofs.OneNode.Registers.{IsPort, port_first, asked_first, kind_by, port_step, asked_step}
+use Rattle.sja_promises.proofs.OneNode.RegistersInBits.{port_bit, asked_bit}
 use Rattle.sja_laws.specs.Promised.{IsPromised}
 use Rattle.sja_laws.proofs.OneNode.OneBit.{cut_before}
 
@@ -53,16 +53,16 @@ cut_item j k u is has = by u (ap record_of is ∙ record_push j (Item u))
         asked true f = cut_same j k (f ∙ append-nil (record_of j)) has
         asked false f = cut_by j k (NodeAsked request) tt f has
 
--- ---- along entries and deeds
+-- ---- along entries and acts
 
-pub asked_by : (version : ℕ) (seen j : List Entry) (deeds : List Deed) (p : Registers) → LeadTo version j deeds p →
-    EachAfter (IsPromised version seen) [] deeds → HasCut j → IsPort j deeds p × IsAsked j p
-asked_by version seen j deeds p power_on promised has = (port_first version, asked_first version)
-asked_by version seen k deeds q (bit j _ _ p _ led b) promised has =
+pub asked_by : (version : ℕ) (seen j : List Entry) (acts : List TypedAct) (p : Registers) → LeadTo version j acts p →
+    EachAfter (IsPromised version seen) [] acts → HasCut j → IsPort j acts p × IsAsked j p
+asked_by version seen j acts p power_on promised has = (port_first version, asked_first version)
+asked_by version seen k acts q (bit j _ _ p _ led b) promised has =
     let cut = cut_before j b.changed (record { found = b.is_turn.found; cut = b.is_turn.cut }) in
-    let h = asked_by version seen j deeds p led promised cut in
-    (port_bit j k deeds p q h.0 b, asked_bit j k deeds p q h.0 b h.1 cut)
-asked_by version seen k deeds q (deed j _ before d p _ led is) promised has =
+    let h = asked_by version seen j acts p led promised cut in
+    (port_bit j k acts p q h.0 b, asked_bit j k acts p q h.0 b h.1 cut)
+asked_by version seen k acts q (act j _ before d p _ led is) promised has =
     let each = each_front (IsPromised version seen) [] before d promised in
     let fits = each.1.fits in
     let cut = back (kind_by version before d p fits is.gave) in

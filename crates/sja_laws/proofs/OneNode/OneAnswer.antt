@@ -5,22 +5,22 @@ use Rattle.std.proofs.lemmas.List.{same_from_push}
 use Rattle.can_frame.specs.declared.buffer_view.BufferView.{BufferView}
 use Rattle.lemmas.specs.Picking.{EachAfter}
 use Rattle.lemmas.proofs.Picking.{each_front}
-use Rattle.sja_link.specs.declared.entry.Entry.{Entry}
-use Rattle.sja_link.specs.declared.up.Up.{Up}
-use Rattle.sja_link.specs.BitEntries.{entries_of_items}
+use Rattle.sja_journal.specs.declared.entry.Entry.{Entry}
+use Rattle.sja_journal.specs.declared.up.Up.{Up}
+use Rattle.sja_journal.specs.BitEntries.{entries_of_items}
 use Rattle.sja_regs.specs.declared.registers.Registers.{Registers}
 use Rattle.sja_regs.specs.InterruptLine.{is_line_active}
-use Rattle.sja_script.specs.declared.refusal.Refusal.TheVariants.{Closed}
-use Rattle.sja_script.specs.declared.step.Step.{Step}
-use Rattle.sja_script.specs.declared.step.Step.TheVariants.{Start, Stop, Window, Release, Read, Write, Load, Command}
-use Rattle.sja_script.specs.declared.step.Step.TheVariants.{Await, Sent, Interrupt, At}
-use Rattle.sja_script.specs.declared.step_answer.StepAnswer.{StepAnswer}
-use Rattle.sja_script.specs.declared.step_answer.StepAnswer.TheVariants.{Done, Refused}
+use Rattle.sja_steps.specs.declared.refusal.Refusal.TheVariants.{Closed}
+use Rattle.sja_steps.specs.declared.step.Step.{Step}
+use Rattle.sja_steps.specs.declared.step.Step.TheVariants.{Start, Stop, Window, Release, Read, Write, Load, Command}
+use Rattle.sja_steps.specs.declared.step.Step.TheVariants.{Await, Sent, Interrupt, At}
+use Rattle.sja_steps.specs.declared.step_answer.StepAnswer.{StepAnswer}
+use Rattle.sja_steps.specs.declared.step_answer.StepAnswer.TheVariants.{Done, Refused}
 use Rattle.sja_driver.specs.Carried.{Sees, Tells, carried, ported}
-use Rattle.sja_driver.specs.Deeds.{Deed, FitsState, is_active, opened_by}
+use Rattle.sja_driver.specs.TypedActs.{TypedAct, FitsState, is_active, opened_by}
 use Rattle.sja_driver.specs.Windows.{SeesIf, off_by, window_of}
-use Rattle.sja_log.specs.Registering.{IsPortDeed, LeadOn, seen_now}
-use Rattle.sja_log.specs.Registering.LeadOn.{nothing_more, one_more}
+use Rattle.sja_promises.specs.Registering.{IsPortAct, LeadOn, seen_now}
+use Rattle.sja_promises.specs.Registering.LeadOn.{nothing_more, one_more}
 use Rattle.sja_laws.specs.Promised.{IsPromised}
 use Rattle.sja_laws.proofs.OneNode.OnePort.{not_last}
 
@@ -91,20 +91,21 @@ answer_once version active opened Interrupt p seen off window a b f g t u h k m 
     (p.closed ≡ true) t u m n
 answer_once version active opened (At bits) p seen off window a b f g t u h k m n = t ∙ sym u
 
--- ---- a deed
+-- ---- an act
 
-sees_by : (active : Bool) (j : List Entry) (before : List Deed) (d : Deed) → SeesIf active j before d →
+sees_by : (active : Bool) (j : List Entry) (before : List TypedAct) (d : TypedAct) → SeesIf active j before d →
     SeesBy active d.step (off_by d.bits j (opened_by before)) (window_of j before d.bits) d.answer
 sees_by true j before d h = h
 sees_by false j before d h = tt
 
-pub record IsOneDeed (d e : Deed) (k l : List Entry) (q r : Registers) : Type 0 where
-  pub deed : d ≡ e
+pub record IsOneAct (d e : TypedAct) (k l : List Entry) (q r : Registers) : Type 0 where
+  pub act : d ≡ e
   pub entries : k ≡ l
   pub port : q ≡ r
 
-module _ (version : ℕ) (seen : List Entry) (before : List Deed) (j k l : List Entry) (p q r : Registers) (d e : Deed)
-    (is : IsPortDeed p q j k before d) (it : IsPortDeed p r j l before e) (same : d.step ≡ e.step)
+module _ (version : ℕ) (seen : List Entry) (before : List TypedAct) (j k l : List Entry) (p q r : Registers)
+    (d e : TypedAct)
+    (is : IsPortAct p q j k before d) (it : IsPortAct p r j l before e) (same : d.step ≡ e.step)
     (h : IsPromised version seen before d) (g : IsPromised version seen before e) where
   bits_same : d.bits ≡ e.bits
   bits_same = is.now ∙ sym it.now
@@ -129,52 +130,53 @@ module _ (version : ℕ) (seen : List Entry) (before : List Deed) (j k l : List 
   gifts : d.gave ≡ e.gave
   gifts = is.gave ∙ (λ i. carried p (same i) (answers i)) ∙ sym it.gave
 
-  pub deed_once : IsOneDeed d e k l q r
-  deed_once = record {
-    deed = λ i. record { step = same i; answer = answers i; bits = bits_same i; gave = gifts i };
+  pub act_once : IsOneAct d e k l q r
+  act_once = record {
+    act = λ i. record { step = same i; answer = answers i; bits = bits_same i; gave = gifts i };
     entries = is.taken ∙ ap (λ (u : List Up). j ++ entries_of_items u) gifts ∙ sym it.taken;
     port = is.left ∙ (λ i. ported p (same i) (answers i)) ∙ sym it.left;
   }
 
--- ---- deeds, one right after the other
+-- ---- acts, one right after the other
 
-pub record AreOneList (ds es : List Deed) (k l : List Entry) (q r : Registers) : Type 0 where
-  pub deeds : ds ≡ es
+pub record AreOneList (ds es : List TypedAct) (k l : List Entry) (q r : Registers) : Type 0 where
+  pub acts : ds ≡ es
   pub entries : k ≡ l
   pub port : q ≡ r
 
-steps_push : (ds : List Deed) (d : Deed) →
-    map (λ (x : Deed). x.step) (ds ++ d ∷ []) ≡ map (λ (x : Deed). x.step) ds ++ d.step ∷ []
+steps_push : (ds : List TypedAct) (d : TypedAct) →
+    map (λ (x : TypedAct). x.step) (ds ++ d ∷ []) ≡ map (λ (x : TypedAct). x.step) ds ++ d.step ∷ []
 steps_push [] d = refl
 steps_push (x ∷ ds) d = ap (λ l. x.step ∷ l) (steps_push ds d)
 
-pub deeds_once : (version : ℕ) (seen : List Entry) (before : List Deed) (j : List Entry) (p : Registers)
-    (ds es : List Deed) (k l : List Entry) (q r : Registers) → LeadOn before j p ds k q → LeadOn before j p es l r →
-    map (λ (x : Deed). x.step) ds ≡ map (λ (x : Deed). x.step) es →
+pub acts_once : (version : ℕ) (seen : List Entry) (before : List TypedAct) (j : List Entry) (p : Registers)
+    (ds es : List TypedAct) (k l : List Entry) (q r : Registers) → LeadOn before j p ds k q → LeadOn before j p es l r →
+    map (λ (x : TypedAct). x.step) ds ≡ map (λ (x : TypedAct). x.step) es →
     EachAfter (IsPromised version seen) before ds → EachAfter (IsPromised version seen) before es →
     AreOneList ds es k l q r
-deeds_once version seen before j p ds es k l q r nothing_more nothing_more same h g =
-    record { deeds = refl; entries = refl; port = refl }
-deeds_once version seen before j p ds es k l q r nothing_more (one_more others e _ _ _ _ on it) same h g =
-    absurd (not_last (map (λ (x : Deed). x.step) others) e.step (sym (same ∙ steps_push others e)))
-deeds_once version seen before j p ds es k l q r (one_more deeds d _ _ _ _ on is) nothing_more same h g =
-    absurd (not_last (map (λ (x : Deed). x.step) deeds) d.step (sym (steps_push deeds d) ∙ same))
-deeds_once version seen before j p ds es k l q r (one_more deeds d m _ s _ on is)
+acts_once version seen before j p ds es k l q r nothing_more nothing_more same h g =
+    record { acts = refl; entries = refl; port = refl }
+acts_once version seen before j p ds es k l q r nothing_more (one_more others e _ _ _ _ on it) same h g =
+    absurd (not_last (map (λ (x : TypedAct). x.step) others) e.step (sym (same ∙ steps_push others e)))
+acts_once version seen before j p ds es k l q r (one_more acts d _ _ _ _ on is) nothing_more same h g =
+    absurd (not_last (map (λ (x : TypedAct). x.step) acts) d.step (sym (steps_push acts d) ∙ same))
+acts_once version seen before j p ds es k l q r (one_more acts d m _ s _ on is)
     (one_more others e n _ t _ lead it) same h g =
-    let parts = same_from_push (map (λ (x : Deed). x.step) deeds) (map (λ (x : Deed). x.step) others) d.step e.step
-    (sym (steps_push deeds d) ∙ same ∙ steps_push others e) in
-    let first = each_front (IsPromised version seen) before deeds d h in
+    let parts = same_from_push (map (λ (x : TypedAct). x.step) acts) (map (λ (x : TypedAct). x.step) others) d.step
+    e.step
+    (sym (steps_push acts d) ∙ same ∙ steps_push others e) in
+    let first = each_front (IsPromised version seen) before acts d h in
     let second = each_front (IsPromised version seen) before others e g in
-    let front = deeds_once version seen before j p deeds others m n s t on lead parts.0 first.0 second.0 in
-    let A : List Entry → Type 0 = λ x. IsPortDeed t r x l (before ++ deeds) e in
-    let B : Registers → Type 0 = λ x. IsPortDeed x r m l (before ++ deeds) e in
-    let C : List Deed → Type 0 = λ x. IsPortDeed t r n l (before ++ x) e in
-    let D : List Deed → Type 0 = λ x. IsPromised version seen (before ++ x) e in
-    let one = deed_once version seen (before ++ deeds) m k l s q r d e is
-    (subst B (sym front.port) (subst A (sym front.entries) (subst C (sym front.deeds) it))) parts.1 first.1
-    (subst D (sym front.deeds) second.1) in
+    let front = acts_once version seen before j p acts others m n s t on lead parts.0 first.0 second.0 in
+    let A : List Entry → Type 0 = λ x. IsPortAct t r x l (before ++ acts) e in
+    let B : Registers → Type 0 = λ x. IsPortAct x r m l (before ++ acts) e in
+    let C : List TypedAct → Type 0 = λ x. IsPortAct t r n l (before ++ x) e in
+    let D : List TypedAct → Type 0 = λ x. IsPromised version seen (before ++ x) e in
+    let one = act_once version seen (before ++ acts) m k l s q r d e is
+    (subst B (sym front.port) (subst A (sym front.entries) (subst C (sym front.acts) it))) parts.1 first.1
+    (subst D (sym front.acts) second.1) in
     record {
-      deeds = λ i. front.deeds i ++ one.deed i ∷ [];
+      acts = λ i. front.acts i ++ one.act i ∷ [];
       entries = one.entries;
       port = one.port;
     }

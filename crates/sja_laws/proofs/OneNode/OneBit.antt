@@ -2,37 +2,37 @@
 use Rattle.std.proofs.Common.{◌≡◌, ℕ, suc, Bool, true, false, Option, Some, None, List, [], ◌∷◌, ◌++◌, length}
 use Rattle.std.proofs.Common.{refl, sym, ap, ◌∙◌, subst, arith, append_assoc, append-nil, inl, inr}
 use Rattle.std.proofs.lemmas.Bool.{cases_eq}
-use Rattle.can_bits.specs.declared.level.Level.{Level}
+use Rattle.can_levels.specs.declared.level.Level.{Level}
 use Rattle.can_frame.specs.Frame.{FrameValue}
 use Rattle.can_frame.specs.Message.{message}
-use Rattle.can_node.specs.declared.bit_events.BitEvents.{BitEvents}
-use Rattle.can_node.specs.NextBit.{DrivesIn}
-use Rattle.can_node.proofs.CutRecords.Fronts.{cut_front}
-use Rattle.can_node.proofs.Driven.Records.{a_bit_is_driven}
-use Rattle.can_node.proofs.OneCut.SameCuts.{drives_same}
+use Rattle.can_node_rules.specs.declared.bit_events.BitEvents.{BitEvents}
+use Rattle.can_node_rules.specs.NextBit.{DrivesIn}
+use Rattle.can_node_rules.proofs.CutRecords.Fronts.{cut_front}
+use Rattle.can_node_rules.proofs.Driven.Records.{a_bit_is_driven}
+use Rattle.can_node_rules.proofs.OneCut.SameCuts.{drives_same}
 use Rattle.lemmas.specs.Gathering.{gathered}
-use Rattle.sja_link.specs.NodeWords.{NodeAborted, NodeEntry, FinishedPiece, IsCut}
-use Rattle.sja_link.specs.declared.entry.Entry.{Entry}
-use Rattle.sja_link.specs.declared.entry.Entry.TheVariants.{Abort, Bit}
-use Rattle.sja_link.specs.declared.verdict.Verdict.{Verdict}
-use Rattle.sja_link.specs.declared.verdict.Verdict.TheVariants.{Stored as ToStore, Overrun as ToLose}
-use Rattle.sja_link.specs.Aborting.{IsApplied}
-use Rattle.sja_link.specs.BitEntries.{HasBit, abort_as, judged_as, off_as}
-use Rattle.sja_link.specs.Links.{stops_of}
-use Rattle.sja_link.specs.Places.{past, place_of, placed_from}
-use Rattle.sja_link.specs.Records.{record_of, told_at}
-use Rattle.sja_link.specs.Verdicts.{IsLawful}
-use Rattle.sja_link.proofs.JournalEntries.EachInPart.{record_both}
-use Rattle.sja_link.proofs.JournalEntries.Entering.{record_push}
+use Rattle.sja_journal.specs.NodeWords.{NodeAborted, NodeEntry, FinishedPiece, IsCut}
+use Rattle.sja_journal.specs.declared.entry.Entry.{Entry}
+use Rattle.sja_journal.specs.declared.entry.Entry.TheVariants.{Abort, Bit}
+use Rattle.sja_journal.specs.declared.verdict.Verdict.{Verdict}
+use Rattle.sja_journal.specs.declared.verdict.Verdict.TheVariants.{Stored as ToStore, Overrun as ToLose}
+use Rattle.sja_journal.specs.Aborting.{IsApplied}
+use Rattle.sja_journal.specs.BitEntries.{HasBit, abort_as, judged_as, off_as}
+use Rattle.sja_journal.specs.Links.{stops_of}
+use Rattle.sja_journal.specs.Places.{past, place_of, placed_from}
+use Rattle.sja_journal.specs.Records.{record_of, told_at}
+use Rattle.sja_journal.specs.Verdicts.{IsLawful}
+use Rattle.sja_journal.proofs.JournalEntries.EachInPart.{record_both}
+use Rattle.sja_journal.proofs.JournalEntries.Entering.{record_push}
 use Rattle.sja_regs.specs.declared.bus_turn.BusTurn.{BusTurn}
 use Rattle.sja_regs.specs.declared.registers.Registers.{Registers}
 use Rattle.sja_regs.specs.Turns.{after_turn}
-use Rattle.sja_wire.specs.Telling.{IsTurn}
+use Rattle.sja_bus_rules.specs.Telling.{IsTurn}
 use Rattle.sja_driver.proofs.OneBit.BitAsked.{HasCut}
 use Rattle.sja_replay.proofs.Once.Bits.{events_once}
-use Rattle.sja_replay.proofs.Listed.BitEntries.{tells_turn}
-use Rattle.sja_log.specs.Registering.{IsPortBit}
-use Rattle.sja_laws.specs.GoingOn.{GoesOn}
+use Rattle.sja_laws.proofs.Listed.BitEntries.{tells_turn}
+use Rattle.sja_promises.specs.Registering.{IsPortBit}
+use Rattle.sja_laws.specs.LongerJournals.{GoesOn}
 use Rattle.sja_laws.proofs.Journals.LastBits.{bit_whole}
 use Rattle.sja_laws.proofs.OneNode.OneTurn.{turn_once}
 use Rattle.sja_laws.proofs.OneNode.OneVerdict.{IsOnFrame, IsRight, judged_too, right}

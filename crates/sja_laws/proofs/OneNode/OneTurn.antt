@@ -1,16 +1,16 @@
 -- A port is told one turn of a bit.
 use Rattle.std.proofs.Common.{◌≡◌, not, Bool, List, sym, ap, ◌∙◌, subst}
 use Rattle.std.specs.Prelude.{◌&&◌}
-use Rattle.can_bits.specs.declared.level.Level.{Level}
-use Rattle.can_node.specs.Context.{ContextValue, is_held}
-use Rattle.can_node.proofs.OneCut.SameCuts.{same_now, same_phase}
-use Rattle.sja_link.specs.declared.entry.Entry.{Entry}
-use Rattle.sja_link.specs.BitEntries.{HasBit}
-use Rattle.sja_link.specs.Records.{record_of}
+use Rattle.can_levels.specs.declared.level.Level.{Level}
+use Rattle.can_node_rules.specs.Context.{ContextValue, is_held}
+use Rattle.can_node_rules.proofs.OneCut.SameCuts.{same_now, same_phase}
+use Rattle.sja_journal.specs.declared.entry.Entry.{Entry}
+use Rattle.sja_journal.specs.BitEntries.{HasBit}
+use Rattle.sja_journal.specs.Records.{record_of}
 use Rattle.sja_regs.specs.declared.bus_turn.BusTurn.{BusTurn}
-use Rattle.sja_wire.specs.Telling.{IsTurn, Says, is_overrun}
+use Rattle.sja_bus_rules.specs.Telling.{IsTurn, Says, is_overrun}
 use Rattle.sja_replay.proofs.Once.Bits.{events_once}
-use Rattle.sja_replay.proofs.Listed.BitEntries.{tells_turn}
+use Rattle.sja_laws.proofs.Listed.BitEntries.{tells_turn}
 
 pub turn_once : (changed : Bool) (opened k l : List Entry) (driven seen : Level) (b : HasBit opened driven seen k)
     (c : HasBit opened driven seen l) (t u : BusTurn) → k ≡ l → b.verdict ≡ c.verdict →

@@ -1,36 +1,37 @@
 -- What comes of the frame that is received with a bit is one.
 use Rattle.std.proofs.Common.{◌≡◌, ◌<◌, ◌≤◌, ◌+◌, ℕ, Bool, true, false, Option, Some, None, List, [], ◌∷◌, ◌++◌, length}
 use Rattle.std.proofs.Common.{refl, sym, ap, ◌∙◌, subst, arith, append_assoc}
-use Rattle.can_bits.specs.declared.level.Level.{Level}
+use Rattle.can_levels.specs.declared.level.Level.{Level}
 use Rattle.can_frame.specs.Frame.{FrameValue}
 use Rattle.can_frame.specs.Message.{message}
-use Rattle.can_node.specs.declared.bit_events.BitEvents.{BitEvents}
-use Rattle.can_node.specs.FinishedPieces.{ReceivedFrame}
-use Rattle.can_node.proofs.CutRecords.Receptions.{received_there}
+use Rattle.can_node_rules.specs.declared.bit_events.BitEvents.{BitEvents}
+use Rattle.can_node_rules.specs.FinishedPieces.{ReceivedFrame}
+use Rattle.can_node_rules.proofs.CutRecords.Receptions.{received_there}
 use Rattle.lemmas.specs.Gathering.{gathered}
 use Rattle.lemmas.specs.Picking.{EachAfter}
-use Rattle.sja_link.specs.NodeWords.{NodeBit, NodeEntry, NodeTook, FinishedPiece, received, IsCut, Count, none_yet}
-use Rattle.sja_link.specs.NodeWords.{counted}
-use Rattle.sja_link.specs.declared.entry.Entry.{Entry}
-use Rattle.sja_link.specs.declared.entry.Entry.TheVariants.{Bit, Up as Item, Abort, Off}
-use Rattle.sja_link.specs.declared.entry.Entry.TheVariants.{Stored as StoredEntry, Overrun as OverrunEntry}
-use Rattle.sja_link.specs.declared.up.Up.TheVariants.{Start, Credit, Send, Stop}
-use Rattle.sja_link.specs.declared.verdict.Verdict.{Verdict}
-use Rattle.sja_link.specs.declared.verdict.Verdict.TheVariants.{Stored as ToStore, Overrun as ToLose}
-use Rattle.sja_link.specs.BitEntries.{HasBit, judged_as, off_as}
-use Rattle.sja_link.specs.Free.{free_of}
-use Rattle.sja_link.specs.Judged.{Judged, judged_at, judged_in}
-use Rattle.sja_link.specs.Parts.{entry_at, in_part, part}
-use Rattle.sja_link.specs.Places.{JournalPlace, first_place, past, place_of, placed, placed_from}
-use Rattle.sja_link.specs.Records.{told_at, record_of}
-use Rattle.sja_link.specs.Verdicts.{HasVerdicts, IsAccepted, IsDue, IsOn, PassesAny, filter_of}
-use Rattle.sja_link.proofs.JournalEntries.EachInPart.{each_part, of_part_at, record_both}
-use Rattle.sja_link.proofs.JournalEntries.Entering.{part_here, place_push, placed_append, record_counted, record_push}
+use Rattle.sja_journal.specs.NodeWords.{NodeBit, NodeEntry, NodeTook, FinishedPiece, received, IsCut, Count, none_yet}
+use Rattle.sja_journal.specs.NodeWords.{counted}
+use Rattle.sja_journal.specs.declared.entry.Entry.{Entry}
+use Rattle.sja_journal.specs.declared.entry.Entry.TheVariants.{Bit, Up as Item, Abort, Off}
+use Rattle.sja_journal.specs.declared.entry.Entry.TheVariants.{Stored as StoredEntry, Overrun as OverrunEntry}
+use Rattle.sja_journal.specs.declared.up.Up.TheVariants.{Start, Credit, Send, Stop}
+use Rattle.sja_journal.specs.declared.verdict.Verdict.{Verdict}
+use Rattle.sja_journal.specs.declared.verdict.Verdict.TheVariants.{Stored as ToStore, Overrun as ToLose}
+use Rattle.sja_journal.specs.BitEntries.{HasBit, judged_as, off_as}
+use Rattle.sja_journal.specs.Free.{free_of}
+use Rattle.sja_journal.specs.Judged.{Judged, judged_at, judged_in}
+use Rattle.sja_journal.specs.Parts.{entry_at, in_part, part}
+use Rattle.sja_journal.specs.Places.{JournalPlace, first_place, past, place_of, placed, placed_from}
+use Rattle.sja_journal.specs.Records.{told_at, record_of}
+use Rattle.sja_journal.specs.Verdicts.{HasVerdicts, IsAccepted, IsDue, IsOn, PassesAny, filter_of}
+use Rattle.sja_journal.proofs.JournalEntries.EachInPart.{each_part, of_part_at, record_both}
+use Rattle.sja_journal.proofs.JournalEntries.Entering.{part_here, place_push, placed_append, record_counted}
+use Rattle.sja_journal.proofs.JournalEntries.Entering.{record_push}
 use Rattle.lemmas.proofs.Gathered.{gathered_append}
 use Rattle.sja_regs.specs.declared.bus_turn.BusTurn.{BusTurn}
-use Rattle.sja_wire.specs.Telling.{IsTurn}
+use Rattle.sja_bus_rules.specs.Telling.{IsTurn}
 use Rattle.sja_driver.proofs.OneBit.BitAsked.{place_bit}
-use Rattle.sja_laws.specs.GoingOn.{BringsLater}
+use Rattle.sja_laws.specs.LongerJournals.{BringsLater}
 use Rattle.sja_laws.proofs.Journals.Partners.{OfNone, frame_of, has_verdict, received_here}
 use Rattle.sja_laws.proofs.Journals.VerdictBits.{StandsAfter, none_there, none_there_off}
 

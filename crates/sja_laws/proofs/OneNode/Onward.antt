@@ -1,52 +1,54 @@
 -- From entries, steps and registers on the way the entries and steps of a whole run are reached.
 use Rattle.std.proofs.Common.{◌≡◌, ◌≤◌, ℕ, Bool, true, false, List, [], ◌∷◌, ◌++◌, refl, sym}
 use Rattle.std.proofs.Common.{ap, ◌∙◌, arith, append-nil, append_assoc}
-use Rattle.can_bits.specs.declared.level.Level.{Level}
-use Rattle.sja_link.specs.declared.entry.Entry.{Entry}
-use Rattle.sja_link.specs.declared.entry.Entry.TheVariants.{Bit, Up as Item, Abort, Stored, Overrun, Off}
-use Rattle.sja_link.specs.declared.up.Up.{Up}
-use Rattle.sja_link.specs.BitEntries.{abort_as, entries_of_items, judged_as, off_as}
-use Rattle.sja_link.specs.Places.{JournalPlace, place_of}
-use Rattle.sja_link.proofs.JournalEntries.EachInPart.{place_both}
-use Rattle.sja_link.proofs.JournalEntries.Entering.{all_rise}
+use Rattle.can_levels.specs.declared.level.Level.{Level}
+use Rattle.sja_journal.specs.declared.entry.Entry.{Entry}
+use Rattle.sja_journal.specs.declared.entry.Entry.TheVariants.{Bit, Up as Item, Abort, Stored, Overrun, Off}
+use Rattle.sja_journal.specs.declared.up.Up.{Up}
+use Rattle.sja_journal.specs.BitEntries.{abort_as, entries_of_items, judged_as, off_as}
+use Rattle.sja_journal.specs.Places.{JournalPlace, place_of}
+use Rattle.sja_journal.proofs.JournalEntries.EachInPart.{place_both}
+use Rattle.sja_journal.proofs.JournalEntries.Entering.{all_rise}
 use Rattle.sja_regs.specs.declared.registers.Registers.{Registers}
 use Rattle.sja_regs.specs.Registers.{at_power_on}
-use Rattle.sja_driver.specs.declared.kept_bytes.KeptBytes.{KeptBytes}
-use Rattle.sja_driver.specs.Accesses.{Access, IsAccess, deeds_in}
-use Rattle.sja_driver.specs.Deeds.{Deed, is_active}
+use Rattle.sja_driver.specs.declared.unmodelled_registers.UnmodelledRegisters.{UnmodelledRegisters}
+use Rattle.sja_driver.specs.StepRuns.{StepRun, IsStepRun, acts_in}
+use Rattle.sja_driver.specs.TypedActs.{TypedAct, is_active}
 use Rattle.sja_driver.specs.Kept.{at_power_on as kept_at_power_on}
-use Rattle.sja_log.specs.Registering.{AccessesLeadTo, IsPortBit, LeadOn, seen_now}
-use Rattle.sja_log.specs.Registering.AccessesLeadTo.{power_on, access, bit}
-use Rattle.sja_log.specs.Registering.LeadOn.{nothing_more, one_more}
-use Rattle.sja_log.proofs.NodeLog.Onward.{Extends, PutsLater}
-use Rattle.sja_laws.specs.GoingOn.{BringsLater, GoesOn}
+use Rattle.sja_promises.specs.Registering.{StepRunsLeadTo, IsPortBit, LeadOn, seen_now}
+use Rattle.sja_promises.specs.Registering.StepRunsLeadTo.{power_on, step_run, bit}
+use Rattle.sja_promises.specs.Registering.LeadOn.{nothing_more, one_more}
+use Rattle.sja_promises.proofs.NodeLog.Onward.{Extends, PutsLater}
+use Rattle.sja_laws.specs.LongerJournals.{BringsLater, GoesOn}
 use Rattle.sja_laws.proofs.Journals.LastBits.{bit_whole}
-use Rattle.sja_laws.proofs.OneNode.OneAccess.{bits_on}
+use Rattle.sja_laws.proofs.OneNode.OneStepRun.{bits_on}
 use Rattle.sja_laws.proofs.OneNode.OnePort.{bits_with_bit}
 
 -- ---- the way on
 
-pub data Onward (version : ℕ) (whole : List Entry) (all : List Access) :
-    List Entry → List Access → KeptBytes → Registers → Type 0 where
-  arrived : (j : List Entry) (accesses : List Access) (kept : KeptBytes) (p : Registers) → j ≡ whole →
-      accesses ≡ all → Onward version whole all j accesses kept p
-  does : (j k : List Entry) (accesses : List Access) (a : Access) (kept kept_now : KeptBytes) (p q : Registers) →
+pub data Onward (version : ℕ) (whole : List Entry) (all : List StepRun) :
+    List Entry → List StepRun → UnmodelledRegisters → Registers → Type 0 where
+  arrived : (j : List Entry) (step_runs : List StepRun) (kept : UnmodelledRegisters) (p : Registers) → j ≡ whole →
+      step_runs ≡ all → Onward version whole all j step_runs kept p
+  does : (j k : List Entry) (step_runs : List StepRun) (a : StepRun) (kept kept_now : UnmodelledRegisters)
+      (p q : Registers) →
       a.bits ≡ (place_of j).bits →
-      IsAccess version p (seen_now (is_active (deeds_in accesses)) j (deeds_in accesses))
-      (is_active (deeds_in accesses)) kept a kept_now → LeadOn (deeds_in accesses) j p a.deeds k q →
-      Onward version whole all k (accesses ++ a ∷ []) kept_now q → Onward version whole all j accesses kept p
-  runs : (j k : List Entry) (accesses : List Access) (kept : KeptBytes) (p q : Registers) → IsPortBit p q j k →
-      Onward version whole all k accesses kept q → Onward version whole all j accesses kept p
+      IsStepRun version p (seen_now (is_active (acts_in step_runs)) j (acts_in step_runs))
+      (is_active (acts_in step_runs)) kept a kept_now → LeadOn (acts_in step_runs) j p a.acts k q →
+      Onward version whole all k (step_runs ++ a ∷ []) kept_now q → Onward version whole all j step_runs kept p
+  runs : (j k : List Entry) (step_runs : List StepRun) (kept : UnmodelledRegisters) (p q : Registers) →
+      IsPortBit p q j k →
+      Onward version whole all k step_runs kept q → Onward version whole all j step_runs kept p
 
 -- all of it from power-on
-pub from_power_on : (version : ℕ) (whole : List Entry) (all : List Access) (j : List Entry) (accesses : List Access)
-    (kept : KeptBytes) (p : Registers) → AccessesLeadTo version j accesses kept p →
-    Onward version whole all j accesses kept p →
+pub from_power_on : (version : ℕ) (whole : List Entry) (all : List StepRun) (j : List Entry) (step_runs : List StepRun)
+    (kept : UnmodelledRegisters) (p : Registers) → StepRunsLeadTo version j step_runs kept p →
+    Onward version whole all j step_runs kept p →
     Onward version whole all [] [] kept_at_power_on (at_power_on version)
 from_power_on version whole all j _ _ _ power_on on = on
-from_power_on version whole all k accesses kept q (bit j _ _ _ p _ led is) on =
-    from_power_on version whole all j accesses kept p led (runs j k accesses kept p q is on)
-from_power_on version whole all k _ kept q (access j _ before a was _ p _ led now is leads) on =
+from_power_on version whole all k step_runs kept q (bit j _ _ _ p _ led is) on =
+    from_power_on version whole all j step_runs kept p led (runs j k step_runs kept p q is on)
+from_power_on version whole all k _ kept q (step_run j _ before a was _ p _ led now is leads) on =
     from_power_on version whole all j before was p led (does j k before a was kept p q now is leads on)
 
 -- ---- the journal goes on
@@ -55,11 +57,11 @@ items_both : (us vs : List Up) → entries_of_items (us ++ vs) ≡ entries_of_it
 items_both [] vs = refl
 items_both (u ∷ us) vs = ap (λ l. Item u ∷ l) (items_both us vs)
 
-pub items_on : (before : List Deed) (j : List Entry) (p : Registers) (k : List Entry) (q : Registers)
-    (deeds : List Deed) → LeadOn before j p deeds k q → (us : List Up) × (k ≡ j ++ entries_of_items us)
+pub items_on : (before : List TypedAct) (j : List Entry) (p : Registers) (k : List Entry) (q : Registers)
+    (acts : List TypedAct) → LeadOn before j p acts k q → (us : List Up) × (k ≡ j ++ entries_of_items us)
 items_on before j p k q _ nothing_more = ([], sym (append-nil j))
-items_on before j p l r _ (one_more deeds d k _ q _ on is) =
-    let h = items_on before j p k q deeds on in (
+items_on before j p l r _ (one_more acts d k _ q _ on is) =
+    let h = items_on before j p k q acts on in (
       h.0 ++ d.gave,
       is.taken ∙ ap (λ x. x ++ entries_of_items d.gave) h.1
           ∙ append_assoc j (entries_of_items h.0) (entries_of_items d.gave)
@@ -75,20 +77,20 @@ later_bit : (changed : Bool) (driven seen : Level) (es : List Entry) →
 later_bit true driven seen es = tt
 later_bit false driven seen es = tt
 
-pub goes_on : (version : ℕ) (whole : List Entry) (all : List Access) (j : List Entry) (accesses : List Access)
-    (kept : KeptBytes) (p : Registers) → Onward version whole all j accesses kept p → GoesOn j whole
-goes_on version whole all j accesses kept p (arrived _ _ _ _ is same) =
+pub goes_on : (version : ℕ) (whole : List Entry) (all : List StepRun) (j : List Entry) (step_runs : List StepRun)
+    (kept : UnmodelledRegisters) (p : Registers) → Onward version whole all j step_runs kept p → GoesOn j whole
+goes_on version whole all j step_runs kept p (arrived _ _ _ _ is same) =
     record { rest = []; is = sym is ∙ sym (append-nil j); later = tt }
-goes_on version whole all j accesses kept p (does _ k _ a _ now _ q bits is on more) =
-    let h = goes_on version whole all k (accesses ++ a ∷ []) now q more in
-    let us = items_on (deeds_in accesses) j p k q a.deeds on in
+goes_on version whole all j step_runs kept p (does _ k _ a _ now _ q bits is on more) =
+    let h = goes_on version whole all k (step_runs ++ a ∷ []) now q more in
+    let us = items_on (acts_in step_runs) j p k q a.acts on in
     record {
       rest = entries_of_items us.0 ++ h.rest;
       is = h.is ∙ ap (λ l. l ++ h.rest) us.1 ∙ append_assoc j (entries_of_items us.0) h.rest;
       later = later_items us.0 h.rest h.later;
     }
-goes_on version whole all j accesses kept p (runs _ k _ _ _ q b more) =
-    let h = goes_on version whole all k accesses kept q more in
+goes_on version whole all j step_runs kept p (runs _ k _ _ _ q b more) =
+    let h = goes_on version whole all k step_runs kept q more in
     let brought = judged_as b.bit.verdict ++ off_as b.bit.off in
     let opened = j ++ abort_as b.changed in
     record {
@@ -120,34 +122,34 @@ bits_rise j whole h =
 
 -- ---- the steps that come
 
-abbrev pub AllLate : ℕ → List Access → Type 0
+abbrev pub AllLate : ℕ → List StepRun → Type 0
 AllLate n [] = Unit {0}
-AllLate n (a ∷ accesses) = (n ≤ a.bits) × AllLate n accesses
+AllLate n (a ∷ step_runs) = (n ≤ a.bits) × AllLate n step_runs
 
-pub late_less : (n m : ℕ) (accesses : List Access) → n ≤ m → AllLate m accesses → AllLate n accesses
+pub late_less : (n m : ℕ) (step_runs : List StepRun) → n ≤ m → AllLate m step_runs → AllLate n step_runs
 late_less n m [] few h = tt
-late_less n m (a ∷ accesses) few h = let b = h.0 in (omega (arith, few, b), late_less n m accesses few h.1)
+late_less n m (a ∷ step_runs) few h = let b = h.0 in (omega (arith, few, b), late_less n m step_runs few h.1)
 
-pub record StepsCome (n : ℕ) (accesses all : List Access) : Type 0 where
-  pub more : List Access
-  pub is : all ≡ accesses ++ more
+pub record StepsCome (n : ℕ) (step_runs all : List StepRun) : Type 0 where
+  pub more : List StepRun
+  pub is : all ≡ step_runs ++ more
   pub late : AllLate n more
 
-pub steps_come : (version : ℕ) (whole : List Entry) (all : List Access) (j : List Entry) (accesses : List Access)
-    (kept : KeptBytes) (p : Registers) → Onward version whole all j accesses kept p →
-    StepsCome (place_of j).bits accesses all
-steps_come version whole all j accesses kept p (arrived _ _ _ _ is same) =
-    record { more = []; is = sym same ∙ sym (append-nil accesses); late = tt }
-steps_come version whole all j accesses kept p (does _ k _ a _ now _ q bits is on more) =
-    let h = steps_come version whole all k (accesses ++ a ∷ []) now q more in
-    let b = (bits_on (deeds_in accesses) j p k q a.deeds on).0 in
+pub steps_come : (version : ℕ) (whole : List Entry) (all : List StepRun) (j : List Entry) (step_runs : List StepRun)
+    (kept : UnmodelledRegisters) (p : Registers) → Onward version whole all j step_runs kept p →
+    StepsCome (place_of j).bits step_runs all
+steps_come version whole all j step_runs kept p (arrived _ _ _ _ is same) =
+    record { more = []; is = sym same ∙ sym (append-nil step_runs); late = tt }
+steps_come version whole all j step_runs kept p (does _ k _ a _ now _ q bits is on more) =
+    let h = steps_come version whole all k (step_runs ++ a ∷ []) now q more in
+    let b = (bits_on (acts_in step_runs) j p k q a.acts on).0 in
     record {
       more = a ∷ h.more;
-      is = h.is ∙ append_assoc accesses (a ∷ []) h.more;
+      is = h.is ∙ append_assoc step_runs (a ∷ []) h.more;
       late = (omega (arith, bits), late_less (place_of j).bits (place_of k).bits h.more (omega (arith, b)) h.late);
     }
-steps_come version whole all j accesses kept p (runs _ k _ _ _ q b more) =
-    let h = steps_come version whole all k accesses kept q more in
+steps_come version whole all j step_runs kept p (runs _ k _ _ _ q b more) =
+    let h = steps_come version whole all k step_runs kept q more in
     let n = bits_with_bit j k p q b in
     record {
       more = h.more;

@@ -5,28 +5,28 @@ use Rattle.std.proofs.lemmas.List.{length-append}
 use Rattle.std.specs.Prelude.{◌==◌, ◌||◌}
 use Rattle.lemmas.specs.Gathering.{total}
 use Rattle.lemmas.proofs.Gathered.{total_append}
-use Rattle.sja_link.specs.declared.entry.Entry.{Entry}
+use Rattle.sja_journal.specs.declared.entry.Entry.{Entry}
 use Rattle.sja_regs.specs.declared.mode.Mode.{Mode}
 use Rattle.sja_regs.specs.declared.registers.Registers.{Registers}
 use Rattle.sja_regs.specs.Commands.{command_of}
 use Rattle.sja_regs.specs.Modes.{mode_of}
 use Rattle.sja_regs.specs.Registers.{is_forced}
 use Rattle.sja_regs.specs.Writing.{is_other_mode}
-use Rattle.sja_script.specs.declared.step.Step.{Step}
-use Rattle.sja_script.specs.declared.step.Step.TheVariants.{Start, Stop, Window, Release, Read, Write, Load, Command}
-use Rattle.sja_script.specs.declared.step.Step.TheVariants.{Await, Sent, Interrupt, At}
-use Rattle.sja_script.specs.declared.step_answer.StepAnswer.{StepAnswer}
-use Rattle.sja_script.specs.declared.step_answer.StepAnswer.TheVariants.{Done as DoneAnswer, NoMessage, Shown, Released}
-use Rattle.sja_script.specs.declared.step_answer.StepAnswer.TheVariants.{Value, Refused, Ignored}
-use Rattle.sja_driver.specs.declared.kept_bytes.KeptBytes.{KeptBytes}
-use Rattle.sja_driver.specs.Accesses.{Access, by_bytes, deed_steps, deeds_in}
-use Rattle.sja_driver.specs.CommandWrites.{command_byte, commands, command_steps, doable, releases}
-use Rattle.sja_driver.specs.Deeds.{Deed, is_active, opened, opened_by}
+use Rattle.sja_steps.specs.declared.step.Step.{Step}
+use Rattle.sja_steps.specs.declared.step.Step.TheVariants.{Start, Stop, Window, Release, Read, Write, Load, Command}
+use Rattle.sja_steps.specs.declared.step.Step.TheVariants.{Await, Sent, Interrupt, At}
+use Rattle.sja_steps.specs.declared.step_answer.StepAnswer.{StepAnswer}
+use Rattle.sja_steps.specs.declared.step_answer.StepAnswer.TheVariants.{Done as DoneAnswer, NoMessage, Shown, Released}
+use Rattle.sja_steps.specs.declared.step_answer.StepAnswer.TheVariants.{Value, Refused, Ignored}
+use Rattle.sja_driver.specs.declared.unmodelled_registers.UnmodelledRegisters.{UnmodelledRegisters}
+use Rattle.sja_driver.specs.StepRuns.{StepRun, by_bytes, act_steps, acts_in}
+use Rattle.sja_driver.specs.CommandWrites.{command_byte, commands, command_steps, permitted_part, releases}
+use Rattle.sja_driver.specs.TypedActs.{TypedAct, is_active, opened, opened_by}
 use Rattle.sja_driver.specs.ModeWrites.{closing, leaving, mode_steps, reset_byte, taking}
 use Rattle.sja_driver.specs.Writes.{write_steps}
-use Rattle.sja_log.specs.Registering.{AccessesLeadTo}
-use Rattle.sja_log.specs.Registering.AccessesLeadTo.{power_on, access, bit}
-use Rattle.sja_log.proofs.Trace.AccessDeeds.{deeds_push}
+use Rattle.sja_promises.specs.Registering.{StepRunsLeadTo}
+use Rattle.sja_promises.specs.Registering.StepRunsLeadTo.{power_on, step_run, bit}
+use Rattle.sja_promises.proofs.Trace.StepRunActs.{acts_push}
 
 -- ---- starts among steps
 
@@ -42,8 +42,8 @@ starts_by s = cond (is_start s) 1 0
 abbrev starts_in : List Step → ℕ
 starts_in = total starts_by
 
--- whether a deed tried one
-abbrev tried_by : Deed → ℕ
+-- whether an act tried one
+abbrev tried_by : TypedAct → ℕ
 tried_by d = starts_by d.step
 
 -- no step is more than one
@@ -76,15 +76,15 @@ opened_started Interrupt r = omega arith
 opened_started (At bits) r = omega arith
 
 -- so no more activations are opened than starts are tried
-opened_tried : (deeds : List Deed) → opened_by deeds ≤ total tried_by deeds
+opened_tried : (acts : List TypedAct) → opened_by acts ≤ total tried_by acts
 opened_tried [] = omega arith
-opened_tried (d ∷ deeds) =
-    let one = opened_started d.step d.answer in let rest = opened_tried deeds in omega (arith, one, rest)
+opened_tried (d ∷ acts) =
+    let one = opened_started d.step d.answer in let rest = opened_tried acts in omega (arith, one, rest)
 
--- deeds are as many tries as their steps are starts
-tried_steps : (deeds : List Deed) → total tried_by deeds ≡ starts_in (map (λ (d : Deed). d.step) deeds)
+-- acts are as many tries as their steps are starts
+tried_steps : (acts : List TypedAct) → total tried_by acts ≡ starts_in (map (λ (d : TypedAct). d.step) acts)
 tried_steps [] = refl
-tried_steps (d ∷ deeds) = ap (λ n. starts_by d.step + n) (tried_steps deeds)
+tried_steps (d ∷ acts) = ap (λ n. starts_by d.step + n) (tried_steps acts)
 
 -- ---- of the steps that a write is one at most is a start
 
@@ -122,7 +122,7 @@ command_never : (p : Registers) (value : ℕ) → starts_in (command_steps p (co
 command_never p value = by p.mode.rm
   where
     byte : ℕ
-    byte = command_byte (doable p (command_of value))
+    byte = command_byte (permitted_part p (command_of value))
 
     by : (rm : Bool) → starts_in (cond rm [] (commands byte ++ releases (command_of value).rrb)) ≡ 0
     by true = refl
@@ -143,8 +143,8 @@ write_once p active address value = by (address == 0) (address == 1)
     by false true = let none = command_never p value in omega (arith, none)
     by false false = omega arith
 
--- no step is more starts than one, of the deeds that it is
-starts_once : (bytes : Bool) (p : Registers) (active : Bool) (s : Step) → starts_in (deed_steps bytes p active s) ≤ 1
+-- no step is more starts than one, of the acts that it is
+starts_once : (bytes : Bool) (p : Registers) (active : Bool) (s : Step) → starts_in (act_steps bytes p active s) ≤ 1
 starts_once true p active (Write address value) = write_once p active address value
 starts_once true p active Start = omega arith
 starts_once true p active Stop = omega arith
@@ -162,25 +162,26 @@ starts_once false p active s = let one = one_at_most s in omega (arith, one)
 -- ---- of all steps of a driver
 
 -- so a driver tries no more starts than it does steps
-tried_few : (version : ℕ) (j : List Entry) (accesses : List Access) (kept : KeptBytes) (p : Registers) →
-    AccessesLeadTo version j accesses kept p → total tried_by (deeds_in accesses) ≤ length accesses
+tried_few : (version : ℕ) (j : List Entry) (step_runs : List StepRun) (kept : UnmodelledRegisters) (p : Registers) →
+    StepRunsLeadTo version j step_runs kept p → total tried_by (acts_in step_runs) ≤ length step_runs
 tried_few version j _ _ _ power_on = omega arith
-tried_few version j accesses kept p (bit before _ _ _ was _ led _) =
-    tried_few version before accesses kept was led
-tried_few version k _ _ _ (access j _ before a was _ p _ led now is on) =
+tried_few version j step_runs kept p (bit before _ _ _ was _ led _) =
+    tried_few version before step_runs kept was led
+tried_few version k _ _ _ (step_run j _ before a was _ p _ led now is on) =
     let so_far = tried_few version j before was p led in
-    let all = ap (total tried_by) (deeds_push before a) ∙ total_append tried_by (deeds_in before) a.deeds in
+    let all = ap (total tried_by) (acts_push before a) ∙ total_append tried_by (acts_in before) a.acts in
     let long = length-append before (a ∷ []) in
-    let steps = tried_steps a.deeds ∙ ap starts_in is.steps in
-    let one = starts_once (by_bytes version) p (is_active (deeds_in before)) a.step in
+    let steps = tried_steps a.acts ∙ ap starts_in is.steps in
+    let one = starts_once (by_bytes version) p (is_active (acts_in before)) a.step in
     omega (arith, so_far, all, long, steps, one)
 
 -- before a start fewer activations have been opened than steps are done
-pub opened_before : (version : ℕ) (j : List Entry) (accesses : List Access) (kept : KeptBytes) (p : Registers) →
-    AccessesLeadTo version j accesses kept p → (before after : List Deed) (d : Deed) →
-    deeds_in accesses ≡ before ++ d ∷ after → d.step ≡ Start → opened_by before < length accesses
-opened_before version j accesses kept p led before after d split start =
-    let few = tried_few version j accesses kept p led in
+pub opened_before : (version : ℕ) (j : List Entry) (step_runs : List StepRun) (kept : UnmodelledRegisters)
+    (p : Registers) →
+    StepRunsLeadTo version j step_runs kept p → (before after : List TypedAct) (d : TypedAct) →
+    acts_in step_runs ≡ before ++ d ∷ after → d.step ≡ Start → opened_by before < length step_runs
+opened_before version j step_runs kept p led before after d split start =
+    let few = tried_few version j step_runs kept p led in
     let all = ap (total tried_by) split ∙ total_append tried_by before (d ∷ after) in
     let one : tried_by d ≡ 1 = ap starts_by start in
     let less = opened_tried before in omega (arith, few, all, one, less)

@@ -4,42 +4,42 @@ use Rattle.std.proofs.Common.{◌++◌, length, map, refl, sym, ap, ◌∙◌, s
 use Rattle.can_frame.specs.declared.buffer_view.BufferView.{BufferView}
 use Rattle.lemmas.specs.Picking.{EachAfter}
 use Rattle.lemmas.proofs.Gathered.{gathered_append, gathered_push}
-use Rattle.sja_link.specs.NodeWords.{NodeEntry}
-use Rattle.sja_link.specs.declared.entry.Entry.{Entry}
-use Rattle.sja_link.specs.declared.entry.Entry.TheVariants.{Bit}
-use Rattle.sja_link.specs.declared.up.Up.{Up}
-use Rattle.sja_link.specs.declared.verdict.Verdict.{Verdict}
-use Rattle.sja_link.specs.declared.verdict.Verdict.TheVariants.{Stored as ToStore, Overrun as ToLose}
-use Rattle.sja_link.specs.BitEntries.{abort_as, entries_of_items, judged_as, off_as}
-use Rattle.sja_link.specs.Carried.{taken_in, taken_of}
-use Rattle.sja_link.specs.Places.{place_of}
-use Rattle.sja_link.specs.Records.{record_of}
-use Rattle.sja_link.proofs.JournalEntries.Entering.{bits_counted}
+use Rattle.sja_journal.specs.NodeWords.{NodeEntry}
+use Rattle.sja_journal.specs.declared.entry.Entry.{Entry}
+use Rattle.sja_journal.specs.declared.entry.Entry.TheVariants.{Bit}
+use Rattle.sja_journal.specs.declared.up.Up.{Up}
+use Rattle.sja_journal.specs.declared.verdict.Verdict.{Verdict}
+use Rattle.sja_journal.specs.declared.verdict.Verdict.TheVariants.{Stored as ToStore, Overrun as ToLose}
+use Rattle.sja_journal.specs.BitEntries.{abort_as, entries_of_items, judged_as, off_as}
+use Rattle.sja_journal.specs.Carried.{taken_in, taken_of}
+use Rattle.sja_journal.specs.Places.{place_of}
+use Rattle.sja_journal.specs.Records.{record_of}
+use Rattle.sja_journal.proofs.JournalEntries.Entering.{bits_counted}
 use Rattle.sja_regs.specs.declared.registers.Registers.{Registers}
 use Rattle.sja_regs.specs.InterruptLine.{is_line_active}
-use Rattle.sja_script.specs.declared.refusal.Refusal.TheVariants.{Closed}
-use Rattle.sja_script.specs.declared.step.Step.{Step}
-use Rattle.sja_script.specs.declared.step.Step.TheVariants.{Start, Stop, Window, Release, Read, Write, Load, Command}
-use Rattle.sja_script.specs.declared.step.Step.TheVariants.{Await, Sent, Interrupt, At}
-use Rattle.sja_script.specs.declared.step_answer.StepAnswer.{StepAnswer}
-use Rattle.sja_script.specs.declared.step_answer.StepAnswer.TheVariants.{Done, Refused}
-use Rattle.sja_driver.specs.declared.kept_bytes.KeptBytes.{KeptBytes}
-use Rattle.sja_driver.specs.Accesses.{Access, Answers, IsAccess, by_bytes, deed_steps, deeds_in}
+use Rattle.sja_steps.specs.declared.refusal.Refusal.TheVariants.{Closed}
+use Rattle.sja_steps.specs.declared.step.Step.{Step}
+use Rattle.sja_steps.specs.declared.step.Step.TheVariants.{Start, Stop, Window, Release, Read, Write, Load, Command}
+use Rattle.sja_steps.specs.declared.step.Step.TheVariants.{Await, Sent, Interrupt, At}
+use Rattle.sja_steps.specs.declared.step_answer.StepAnswer.{StepAnswer}
+use Rattle.sja_steps.specs.declared.step_answer.StepAnswer.TheVariants.{Done, Refused}
+use Rattle.sja_driver.specs.declared.unmodelled_registers.UnmodelledRegisters.{UnmodelledRegisters}
+use Rattle.sja_driver.specs.StepRuns.{StepRun, Answers, IsStepRun, by_bytes, act_steps, acts_in}
 use Rattle.sja_driver.specs.Carried.{Sees, Tells}
-use Rattle.sja_driver.specs.Deeds.{Deed, given_in, is_active, opened_by}
+use Rattle.sja_driver.specs.TypedActs.{TypedAct, given_in, is_active, opened_by}
 use Rattle.sja_driver.specs.Moments.{at_moment}
-use Rattle.sja_driver.specs.Resting.{IsHolding}
+use Rattle.sja_driver.specs.NodeRest.{IsHolding}
 use Rattle.sja_driver.specs.Windows.{SeesIf, off_by, put_by, window_of}
 use Rattle.sja_driver.proofs.Trace.Moments.{HasBitsAfterAborts}
-use Rattle.sja_log.specs.Registering.{AccessesLeadTo, IsLineInactive, IsPortDeed, LeadOn, LeadTo, seen_now}
-use Rattle.sja_log.specs.Registering.LeadTo.{power_on, deed, bit}
-use Rattle.sja_log.specs.Turns.{IsUnmet}
-use Rattle.sja_log.proofs.NodeLog.Onward.{moment_then, put_then, aborts_bit, aborts_items}
-use Rattle.sja_log.proofs.OneNode.OneDeed.{lead_one}
-use Rattle.sja_log.proofs.Trace.AccessDeeds.{forget}
-use Rattle.sja_log.proofs.Trace.Stays.{unclosed_led}
-use Rattle.sja_log.proofs.Trace.Windows.{window_later}
-use Rattle.sja_laws.specs.GoingOn.{GoesOn}
+use Rattle.sja_promises.specs.Registering.{StepRunsLeadTo, IsLineInactive, IsPortAct, LeadOn, LeadTo, seen_now}
+use Rattle.sja_promises.specs.Registering.LeadTo.{power_on, act, bit}
+use Rattle.sja_promises.specs.Turns.{IsUnmet}
+use Rattle.sja_promises.proofs.NodeLog.Onward.{moment_then, put_then, aborts_bit, aborts_items}
+use Rattle.sja_promises.proofs.OneNode.OneAct.{lead_one}
+use Rattle.sja_promises.proofs.Trace.StepRunActs.{forget}
+use Rattle.sja_promises.proofs.Trace.Stays.{unclosed_led}
+use Rattle.sja_promises.proofs.Trace.Windows.{window_later}
+use Rattle.sja_laws.specs.LongerJournals.{GoesOn}
 use Rattle.sja_laws.specs.Promised.{IsPromised}
 use Rattle.sja_laws.proofs.Journals.LastBits.{bit_whole}
 use Rattle.sja_laws.proofs.OneNode.Asked.{asked_by}
@@ -49,14 +49,14 @@ use Rattle.sja_link.specs.Looking.{off_among}
 
 -- ---- the journal at the moment that it has come to
 
-aborts_by : (version : ℕ) (j : List Entry) (deeds : List Deed) (p : Registers) → LeadTo version j deeds p →
+aborts_by : (version : ℕ) (j : List Entry) (acts : List TypedAct) (p : Registers) → LeadTo version j acts p →
     HasBitsAfterAborts j
-aborts_by version j deeds p power_on = tt
-aborts_by version k deeds q (deed j _ before d p _ led is) =
+aborts_by version j acts p power_on = tt
+aborts_by version k acts q (act j _ before d p _ led is) =
     aborts_items j k (record { items = d.gave; whole = is.taken }) (aborts_by version j before p led)
-aborts_by version k deeds q (bit j _ _ p _ led b) =
+aborts_by version k acts q (bit j _ _ p _ led b) =
     aborts_bit j k (record { changed = b.changed; driven = b.driven; seen = b.seen; bit = b.bit })
-    (aborts_by version j deeds p led)
+    (aborts_by version j acts p led)
 
 items_taken : (us : List Up) → taken_of (entries_of_items us) ≡ us
 items_taken [] = refl
@@ -74,36 +74,36 @@ abort_taken : (j : List Entry) (changed : Bool) → taken_of (j ++ abort_as chan
 abort_taken j true = gathered_push taken_in j _ ∙ append-nil (taken_of j)
 abort_taken j false = ap taken_of (append-nil j)
 
-taken_by : (version : ℕ) (j : List Entry) (deeds : List Deed) (p : Registers) → LeadTo version j deeds p →
-    taken_of j ≡ given_in deeds
-taken_by version j deeds p power_on = refl
-taken_by version k deeds q (deed j _ before d p _ led is) =
+taken_by : (version : ℕ) (j : List Entry) (acts : List TypedAct) (p : Registers) → LeadTo version j acts p →
+    taken_of j ≡ given_in acts
+taken_by version j acts p power_on = refl
+taken_by version k acts q (act j _ before d p _ led is) =
     ap taken_of is.taken ∙ gathered_append taken_in j (entries_of_items d.gave)
     ∙ ap (λ l. taken_of j ++ l) (items_taken d.gave)
     ∙ ap (λ l. l ++ d.gave) (taken_by version j before p led)
-    ∙ sym (gathered_push (λ (x : Deed). x.gave) before d)
-taken_by version k deeds q (bit j _ _ p _ led b) =
+    ∙ sym (gathered_push (λ (x : TypedAct). x.gave) before d)
+taken_by version k acts q (bit j _ _ p _ led b) =
     let opened = j ++ abort_as b.changed in
     let brought = judged_as b.bit.verdict ++ off_as b.bit.off in
     ap taken_of (bit_whole opened k b.driven b.seen b.bit)
     ∙ gathered_append taken_in opened (Bit b.driven b.seen ∷ brought)
     ∙ ap (λ l. taken_of opened ++ l) (none_taken b.bit.verdict b.bit.off)
-    ∙ append-nil (taken_of opened) ∙ abort_taken j b.changed ∙ taken_by version j deeds p led
+    ∙ append-nil (taken_of opened) ∙ abort_taken j b.changed ∙ taken_by version j acts p led
 
-pub moment_is_front : (version : ℕ) (whole j : List Entry) (deeds : List Deed) (p : Registers) (bits : ℕ) →
-    LeadTo version j deeds p → GoesOn j whole → (place_of j).bits ≡ bits →
-    at_moment bits (length (given_in deeds)) whole ≡ j
-moment_is_front version whole j deeds p bits led on is =
-    moment_then j whole bits (length (given_in deeds)) (extends j whole on) (aborts_by version j deeds p led)
-    (sym (bits_counted j) ∙ is) (ap (λ (l : List Up). length l) (taken_by version j deeds p led))
+pub moment_is_front : (version : ℕ) (whole j : List Entry) (acts : List TypedAct) (p : Registers) (bits : ℕ) →
+    LeadTo version j acts p → GoesOn j whole → (place_of j).bits ≡ bits →
+    at_moment bits (length (given_in acts)) whole ≡ j
+moment_is_front version whole j acts p bits led on is =
+    moment_then j whole bits (length (given_in acts)) (extends j whole on) (aborts_by version j acts p led)
+    (sym (bits_counted j) ∙ is) (ap (λ (l : List Up). length l) (taken_by version j acts p led))
 
--- ---- a step that waits is one deed
+-- ---- a step that waits is one act
 
-single : (deeds : List Deed) (s : Step) → map (λ (d : Deed). d.step) deeds ≡ s ∷ [] →
-    (d : Deed) × (deeds ≡ d ∷ []) × (d.step ≡ s)
+single : (acts : List TypedAct) (s : Step) → map (λ (d : TypedAct). d.step) acts ≡ s ∷ [] →
+    (d : TypedAct) × (acts ≡ d ∷ []) × (d.step ≡ s)
 single [] s e = absurd cc
 single (d ∷ []) s e = (d, refl, cc)
-single (d ∷ x ∷ deeds) s e = absurd cc
+single (d ∷ x ∷ acts) s e = absurd cc
 
 -- such a step
 data Waits : Step → Type 0 where
@@ -111,7 +111,7 @@ data Waits : Step → Type 0 where
   for_the_buffer : Waits Sent
   for_the_line : Waits Interrupt
 
-one_step : (bytes : Bool) (p : Registers) (active : Bool) (s : Step) → Waits s → deed_steps bytes p active s ≡ s ∷ []
+one_step : (bytes : Bool) (p : Registers) (active : Bool) (s : Step) → Waits s → act_steps bytes p active s ≡ s ∷ []
 one_step true p active _ (for_messages count) = refl
 one_step true p active _ for_the_buffer = refl
 one_step true p active _ for_the_line = refl
@@ -127,7 +127,7 @@ await_met count true window a h e patient few = let never : true ≡ false = e i
 await_met count false window a (inl h) e patient few = let many = h.1 in omega (arith, many, few)
 await_met count false window a (inr h) e patient few = patient h.0
 
-sees_active : (active : Bool) (j : List Entry) (before : List Deed) (d : Deed) → active ≡ true →
+sees_active : (active : Bool) (j : List Entry) (before : List TypedAct) (d : TypedAct) → active ≡ true →
     SeesIf active j before d → Sees d.step (off_by d.bits j (opened_by before)) (window_of j before d.bits) d.answer
 sees_active true j before d e h = h
 sees_active false j before d e h = absurd cc
@@ -151,22 +151,23 @@ reached_not least bits closed a (inr h) unclosed few = let never : true ≡ fals
 
 -- ---- the whole step
 
-module _ (version : ℕ) (whole seen j : List Entry) (accesses : List Access) (kept : KeptBytes) (p : Registers)
-    (past : AccessesLeadTo version j accesses kept p)
-    (promised : EachAfter (IsPromised version seen) [] (deeds_in accesses)) (on : GoesOn j whole) (k : List Entry)
-    (q : Registers) (kept_now : KeptBytes) (a : Access)
-    (is : IsAccess version p (seen_now (is_active (deeds_in accesses)) j (deeds_in accesses))
-    (is_active (deeds_in accesses)) kept a kept_now) (leads : LeadOn (deeds_in accesses) j p a.deeds k q)
-    (now : EachAfter (IsPromised version j) (deeds_in accesses) a.deeds)
+module _ (version : ℕ) (whole seen j : List Entry) (step_runs : List StepRun) (kept : UnmodelledRegisters)
+    (p : Registers)
+    (past : StepRunsLeadTo version j step_runs kept p)
+    (promised : EachAfter (IsPromised version seen) [] (acts_in step_runs)) (on : GoesOn j whole) (k : List Entry)
+    (q : Registers) (kept_now : UnmodelledRegisters) (a : StepRun)
+    (is : IsStepRun version p (seen_now (is_active (acts_in step_runs)) j (acts_in step_runs))
+    (is_active (acts_in step_runs)) kept a kept_now) (leads : LeadOn (acts_in step_runs) j p a.acts k q)
+    (now : EachAfter (IsPromised version j) (acts_in step_runs) a.acts)
     (at : (least : ℕ) → a.step ≡ At least → a.bits ≡ (place_of j).bits) where
-  abbrev before : List Deed
-  before = deeds_in accesses
+  abbrev before : List TypedAct
+  before = acts_in step_runs
 
   abbrev bits : ℕ
   bits = (place_of j).bits
 
   led : LeadTo version j before p
-  led = forget version j accesses kept p past
+  led = forget version j step_runs kept p past
 
   front : at_moment bits (length (given_in before)) whole ≡ j
   front = moment_is_front version whole j before p bits led on refl
@@ -174,20 +175,20 @@ module _ (version : ℕ) (whole seen j : List Entry) (accesses : List Access) (k
   puts : (n : ℕ) → put_by bits whole n ≡ put_by bits j n
   puts n = put_then j whole bits n (extends j whole on) refl
 
-  -- its deed
+  -- its act
   record IsAlone (s : Step) : Type 0 where
-    pub one : Deed
+    pub one : TypedAct
     pub step : one.step ≡ s
-    pub port : IsPortDeed p q j k before one
+    pub port : IsPortAct p q j k before one
     pub promise : IsPromised version j before one
 
   alone : (s : Step) → a.step ≡ s → Waits s → IsAlone s
   alone s e w =
-      let listed : map (λ (d : Deed). d.step) a.deeds ≡ s ∷ [] =
-      is.steps ∙ ap (deed_steps (by_bytes version) p (is_active before)) e
+      let listed : map (λ (d : TypedAct). d.step) a.acts ≡ s ∷ [] =
+      is.steps ∙ ap (act_steps (by_bytes version) p (is_active before)) e
       ∙ one_step (by_bytes version) p (is_active before) s w in
-      let one = single a.deeds s listed in
-      let P : List Deed → Type 0 = λ l. EachAfter (IsPromised version j) before l in
+      let one = single a.acts s listed in
+      let P : List TypedAct → Type 0 = λ l. EachAfter (IsPromised version j) before l in
       record {
         one = one.0;
         step = one.2;
@@ -241,7 +242,7 @@ module _ (version : ℕ) (whole seen j : List Entry) (accesses : List Access) (k
   never_at : (least : ℕ) → a.step ≡ At least → IsUnmet version whole before bits (At least) → ⊥
   never_at least e unmet =
       let A : Bool → ℕ → Step → Type 0 =
-      λ b n s. Answers b p (seen_now (is_active before) j before) kept n s a.deeds a.answer in
+      λ b n s. Answers b p (seen_now (is_active before) j before) kept n s a.acts a.answer in
       let told : A true bits (At least) =
       subst (λ b. A b bits (At least)) unmet.0 (subst (λ n. A (by_bytes version) n (At least)) (at least e)
       (subst (λ s. A (by_bytes version) a.bits s) e is.answer)) in

@@ -5,9 +5,10 @@ use Rattle.sja_plan.specs.Plan.{PlanValue}
 use Rattle.sja_plan.specs.declared.turn.Turn.{Turn}
 use Rattle.sja_plan.specs.declared.turn.Turn.TheVariants.{Bus, Rest, Go}
 use Rattle.sja_log.specs.declared.end.End.{End}
-use Rattle.sja_log.specs.Turns.{Progress, RunsTo, steps_done, with_bits, with_steps}
-use Rattle.sja_log.specs.Turns.RunsTo.{all_done, bus, bus_spent, rest, rest_spent, node, irq, irq_spent, go, go_over}
-use Rattle.sja_log.specs.Turns.RunsTo.{all as all_steps}
+use Rattle.sja_promises.specs.Turns.{Progress, RunsTo, steps_done, with_bits, with_steps}
+use Rattle.sja_promises.specs.Turns.RunsTo.{all_done, bus, bus_spent, rest, rest_spent, node, irq, irq_spent, go}
+use Rattle.sja_promises.specs.Turns.RunsTo.{go_over}
+use Rattle.sja_promises.specs.Turns.RunsTo.{all as all_steps}
 use Rattle.sja_laws.proofs.AllNodes.Bits.{TwoRuns}
 use Rattle.sja_laws.proofs.WholeRun.Lines.{IsSameRound, all_round, all_turn, line_here, line_there}
 use Rattle.sja_laws.proofs.WholeRun.Progressing.{steps_long}

@@ -5,13 +5,14 @@ use Rattle.std.specs.Prelude.{slice_index_or}
 use Rattle.std.proofs.lemmas.Bool.{cases_eq, cases_lt}
 use Rattle.sja_plan.specs.declared.turn.Turn.{Turn}
 use Rattle.sja_plan.specs.declared.turn.Turn.TheVariants.{Bus, Rest, Go}
-use Rattle.sja_driver.specs.Accesses.{Access}
+use Rattle.sja_driver.specs.StepRuns.{StepRun}
 use Rattle.sja_log.specs.declared.end.End.{End}
-use Rattle.sja_log.specs.Turns.{Acts, AllDo, Progress, RunsTo, DoesSteps, all_accesses, steps_done, with_bits}
-use Rattle.sja_log.specs.Turns.{with_steps}
-use Rattle.sja_log.specs.Turns.AllDo.{no_node_more, one_node}
-use Rattle.sja_log.specs.Turns.RunsTo.{all_done, bus, bus_spent, rest, rest_spent, node, irq, irq_spent, go, go_over}
-use Rattle.sja_log.specs.Turns.RunsTo.{all as all_steps}
+use Rattle.sja_promises.specs.Turns.{Acts, AllDo, Progress, RunsTo, DoesSteps, all_step_runs, steps_done, with_bits}
+use Rattle.sja_promises.specs.Turns.{with_steps}
+use Rattle.sja_promises.specs.Turns.AllDo.{no_node_more, one_node}
+use Rattle.sja_promises.specs.Turns.RunsTo.{all_done, bus, bus_spent, rest, rest_spent, node, irq, irq_spent, go}
+use Rattle.sja_promises.specs.Turns.RunsTo.{go_over}
+use Rattle.sja_promises.specs.Turns.RunsTo.{all as all_steps}
 use Rattle.sja_laws.proofs.WholeRun.Progressing.{steps_same, steps_other, steps_long}
 
 -- the bits don't fall, and aren't more than the plan has
@@ -66,10 +67,10 @@ rises r p q _ e (go_over _ m _ turns _ round none h) few =
 
 -- of a node
 abbrev pub LateAt : Acts → ℕ → ℕ → ℕ → Type 0
-LateAt r bits k done = (i : ℕ) (d : Access) → done ≤ i → i < length (all_accesses r k) →
-    bits ≤ (slice_index_or (all_accesses r k) i d).bits
+LateAt r bits k done = (i : ℕ) (d : StepRun) → done ≤ i → i < length (all_step_runs r k) →
+    bits ≤ (slice_index_or (all_step_runs r k) i d).bits
 
-none_late : (r : Acts) (bits k done : ℕ) → done ≡ length (all_accesses r k) → LateAt r bits k done
+none_late : (r : Acts) (bits k done : ℕ) → done ≡ length (all_step_runs r k) → LateAt r bits k done
 none_late r bits k done all i d from less = absurd (omega (arith, all, from, less))
 
 late_less : (r : Acts) (bits more k done : ℕ) → bits ≤ more → LateAt r more k done → LateAt r bits k done
@@ -80,7 +81,7 @@ late_with : (r : Acts) (p : Progress) (k n m : ℕ) → DoesSteps r p k n m → 
 late_with r p k n m does now is h i d from less = elim (cases_lt i (steps_done p k + m)) [
   | inl early ↦
       let at : steps_done p k + (i - steps_done p k) ≡ i = omega (arith, from) in
-      let b = ap (λ x. (slice_index_or (all_accesses r k) x d).bits) (sym at)
+      let b = ap (λ x. (slice_index_or (all_step_runs r k) x d).bits) (sym at)
       ∙ does.now (i - steps_done p k) d (omega (arith, early, from)) in
       omega (arith, b)
   | inr late ↦ h i d (omega (arith, late, is)) less
@@ -108,7 +109,7 @@ late_round r nodes a p q (one_node _ m _ _ less does on) count k few later =
     (late_round r nodes (suc a) (with_steps p a m) q on (steps_long p a m ∙ count) k few later)
 
 pub late_from : (r : Acts) (p q : Progress) (turns : List Turn) (e : End) (nodes : ℕ) → RunsTo r p turns q e →
-    length p.done ≡ nodes → ((k : ℕ) → k < nodes → steps_done q k ≡ length (all_accesses r k)) →
+    length p.done ≡ nodes → ((k : ℕ) → k < nodes → steps_done q k ≡ length (all_step_runs r k)) →
     (k : ℕ) → k < nodes → LateAt r p.bits k (steps_done p k)
 late_from r p q _ _ nodes (all_done _) count ends k few = none_late r p.bits k (steps_done p k) (ends k few)
 late_from r p q _ e nodes (bus _ _ n turns _ within h) count ends k few =

@@ -3,18 +3,19 @@ use Rattle.std.proofs.Common.{◌≡◌, ◌<◌, ◌≤◌, ◌+◌, ℕ, zero,
 use Rattle.std.proofs.Common.{◌∙◌, subst, arith, inl, inr, take_at}
 use Rattle.std.specs.Prelude.{slice_index, slice_index_or}
 use Rattle.std.proofs.lemmas.Bool.{cases_lt, false≢true}
-use Rattle.sja_link.specs.declared.entry.Entry.{Entry}
-use Rattle.sja_wire.specs.Wire.{journal_at}
+use Rattle.sja_journal.specs.declared.entry.Entry.{Entry}
+use Rattle.sja_bus_rules.specs.Wire.{journal_at}
 use Rattle.sja_plan.specs.Plan.{PlanValue, steps_at}
-use Rattle.sja_driver.specs.Accesses.{Access, accesses_at, deeds_in}
-use Rattle.sja_driver.specs.Deeds.{Deed, given_in, is_active}
+use Rattle.sja_driver.specs.StepRuns.{StepRun, step_runs_at, acts_in}
+use Rattle.sja_driver.specs.TypedActs.{TypedAct, given_in, is_active}
 use Rattle.sja_driver.specs.Moments.{at_moment}
 use Rattle.sja_regs.specs.declared.registers.Registers.{Registers}
 use Rattle.sja_regs.specs.InterruptLine.{is_line_active}
-use Rattle.sja_log.specs.Registering.{IsLineActive, IsLineInactive, LeadTo, seen_now}
-use Rattle.sja_log.specs.Turns.{Acts, AllDo, DoesAll, DoesSteps, Progress, deeds_by, entries_by, steps_done, with_steps}
-use Rattle.sja_log.specs.Turns.AllDo.{no_node_more, one_node}
-use Rattle.sja_log.proofs.Trace.AccessDeeds.{forget}
+use Rattle.sja_promises.specs.Registering.{IsLineActive, IsLineInactive, LeadTo, seen_now}
+use Rattle.sja_promises.specs.Turns.{Acts, AllDo, DoesAll, DoesSteps, Progress, acts_by, entries_by, steps_done}
+use Rattle.sja_promises.specs.Turns.{with_steps}
+use Rattle.sja_promises.specs.Turns.AllDo.{no_node_more, one_node}
+use Rattle.sja_promises.proofs.Trace.StepRunActs.{forget}
 use Rattle.sja_laws.proofs.AllNodes.Bits.{TwoRuns}
 use Rattle.sja_laws.proofs.OneNode.OnePort.{port_once}
 use Rattle.sja_laws.proofs.OneNode.Onward.{goes_on, steps_come}
@@ -26,14 +27,14 @@ use Rattle.sja_laws.proofs.WholeRun.Turns.{Both, node_turn, one, two}
 
 -- ---- one line
 
--- by the same entries and deeds a line isn't active and active
-pub two_lines : (version : ℕ) (j k : List Entry) (deeds more : List Deed) → j ≡ k → deeds ≡ more →
-    IsLineInactive version j deeds → IsLineActive version k more → ⊥
-two_lines version j k deeds more same also down up =
-    let P : List Entry → List Deed → Type 0 = λ l d. IsLineActive version l d in
+-- by the same entries and acts a line isn't active and active
+pub two_lines : (version : ℕ) (j k : List Entry) (acts more : List TypedAct) → j ≡ k → acts ≡ more →
+    IsLineInactive version j acts → IsLineActive version k more → ⊥
+two_lines version j k acts more same also down up =
+    let P : List Entry → List TypedAct → Type 0 = λ l d. IsLineActive version l d in
     let there = subst (λ d. P j d) (sym also) (subst (λ l. P l more) (sym same) up) in
-    let port = port_once version j deeds down.registers there.registers down.lead there.lead in
-    false≢true (sym down.inactive ∙ ap (λ p. is_line_active p (seen_now (is_active deeds) j deeds)) port
+    let port = port_once version j acts down.registers there.registers down.lead there.lead in
+    false≢true (sym down.inactive ∙ ap (λ p. is_line_active p (seen_now (is_active acts) j acts)) port
     ∙ there.active)
 
 -- past the end of a list
@@ -47,27 +48,27 @@ entries_past [] k past = refl
 entries_past (x ∷ l) zero past = absurd (omega (arith, past))
 entries_past (x ∷ l) (suc k) past = entries_past l k (omega (arith, past))
 
--- the deeds of a node, and its entries, at a point to which its run has come
-deeds_then : (version : ℕ) (whole : List Entry) (all : List Access) (other : List Entry) (others : List Access)
+-- the acts of a node, and its entries, at a point to which its run has come
+acts_then : (version : ℕ) (whole : List Entry) (all : List StepRun) (other : List Entry) (others : List StepRun)
     (bits count : ℕ) (t : Together version whole all other others bits count) → take count all ≡ t.steps
-deeds_then version whole all other others bits count t =
+acts_then version whole all other others bits count t =
     let come = steps_come version whole all t.entries t.steps t.kept t.port t.one in
     ap (λ l. take count l) come.is ∙ take_at t.steps come.more count t.count_is
 
-entries_then : (version : ℕ) (whole : List Entry) (all : List Access) (other : List Entry) (others : List Access)
+entries_then : (version : ℕ) (whole : List Entry) (all : List StepRun) (other : List Entry) (others : List StepRun)
     (bits count : ℕ) (t : Together version whole all other others bits count) →
-    at_moment bits (length (given_in (deeds_in (take count all)))) whole ≡ t.entries
+    at_moment bits (length (given_in (acts_in (take count all)))) whole ≡ t.entries
 entries_then version whole all other others bits count t =
-    ap (λ l. at_moment bits (length (given_in (deeds_in l))) whole)
-    (deeds_then version whole all other others bits count t)
-    ∙ moment_is_front version whole t.entries (deeds_in t.steps) t.port bits
+    ap (λ l. at_moment bits (length (given_in (acts_in l))) whole)
+    (acts_then version whole all other others bits count t)
+    ∙ moment_is_front version whole t.entries (acts_in t.steps) t.port bits
     (forget version t.entries t.steps t.kept t.port t.past)
     (goes_on version whole all t.entries t.steps t.kept t.port t.one) t.bits_are
 
 module _ (plan : PlanValue) (r : TwoRuns plan) where
-  -- both have the same deeds of a node, and the same entries
+  -- both have the same acts of a node, and the same entries
   record IsSame (p : Progress) (k bits : ℕ) : Type 0 where
-    deeds : deeds_by (one plan r) p k ≡ deeds_by (two plan r) p k
+    acts : acts_by (one plan r) p k ≡ acts_by (two plan r) p k
     entries : entries_by (one plan r) p k bits ≡ entries_by (two plan r) p k bits
 
   same : (p : Progress) (k bits : ℕ) → length p.done ≡ length plan.nodes → Both plan r bits (steps_done p) →
@@ -75,12 +76,12 @@ module _ (plan : PlanValue) (r : TwoRuns plan) where
   same p k bits long t = elim (cases_lt k (length plan.nodes)) [
     | inl here ↦
         let x = t k here in
-        let a = journal_at r.first k in let b = accesses_at r.all k in
-        let c = journal_at r.second k in let d = accesses_at r.others k in
+        let a = journal_at r.first k in let b = step_runs_at r.all k in
+        let c = journal_at r.second k in let d = step_runs_at r.others k in
         let n = steps_done p k in
         record {
-          deeds = ap deeds_in (deeds_then plan.version a b c d bits n x
-              ∙ sym (deeds_then plan.version c d a b bits n (turned plan.version a b c d bits n x)));
+          acts = ap acts_in (acts_then plan.version a b c d bits n x
+              ∙ sym (acts_then plan.version c d a b bits n (turned plan.version a b c d bits n x)));
           entries = entries_then plan.version a b c d bits n x
               ∙ sym (entries_then plan.version c d a b bits n (turned plan.version a b c d bits n x));
         }
@@ -89,29 +90,29 @@ module _ (plan : PlanValue) (r : TwoRuns plan) where
         let count = r.count in let number = r.number in
         let first = entries_past r.first k (omega (arith, past, count)) in
         let second = entries_past r.second k (omega (arith, past, number)) in
-        let deeds : deeds_by (one plan r) p k ≡ deeds_by (two plan r) p k =
-        ap (λ n. deeds_in (take n (accesses_at r.all k))) none
-        ∙ sym (ap (λ n. deeds_in (take n (accesses_at r.others k))) none) in
+        let acts : acts_by (one plan r) p k ≡ acts_by (two plan r) p k =
+        ap (λ n. acts_in (take n (step_runs_at r.all k))) none
+        ∙ sym (ap (λ n. acts_in (take n (step_runs_at r.others k))) none) in
         record {
-          deeds = deeds;
-          entries = ap (λ l. at_moment bits (length (given_in (deeds_by (one plan r) p k))) l) (first ∙ sym second)
-              ∙ ap (λ l. at_moment bits (length (given_in l)) (journal_at r.second k)) deeds;
+          acts = acts;
+          entries = ap (λ l. at_moment bits (length (given_in (acts_by (one plan r) p k))) l) (first ∙ sym second)
+              ∙ ap (λ l. at_moment bits (length (given_in l)) (journal_at r.second k)) acts;
         }
   ]
 
   pub line_there : (p : Progress) (k bits : ℕ) → length p.done ≡ length plan.nodes → Both plan r bits (steps_done p) →
-      IsLineInactive plan.version (entries_by (one plan r) p k bits) (deeds_by (one plan r) p k) →
-      IsLineActive plan.version (entries_by (two plan r) p k bits) (deeds_by (two plan r) p k) → ⊥
+      IsLineInactive plan.version (entries_by (one plan r) p k bits) (acts_by (one plan r) p k) →
+      IsLineActive plan.version (entries_by (two plan r) p k bits) (acts_by (two plan r) p k) → ⊥
   line_there p k bits long t = let s = same p k bits long t in
       two_lines plan.version (entries_by (one plan r) p k bits) (entries_by (two plan r) p k bits)
-      (deeds_by (one plan r) p k) (deeds_by (two plan r) p k) s.entries s.deeds
+      (acts_by (one plan r) p k) (acts_by (two plan r) p k) s.entries s.acts
 
   pub line_here : (p : Progress) (k bits : ℕ) → length p.done ≡ length plan.nodes → Both plan r bits (steps_done p) →
-      IsLineInactive plan.version (entries_by (two plan r) p k bits) (deeds_by (two plan r) p k) →
-      IsLineActive plan.version (entries_by (one plan r) p k bits) (deeds_by (one plan r) p k) → ⊥
+      IsLineInactive plan.version (entries_by (two plan r) p k bits) (acts_by (two plan r) p k) →
+      IsLineActive plan.version (entries_by (one plan r) p k bits) (acts_by (one plan r) p k) → ⊥
   line_here p k bits long t = let s = same p k bits long t in
       two_lines plan.version (entries_by (two plan r) p k bits) (entries_by (one plan r) p k bits)
-      (deeds_by (two plan r) p k) (deeds_by (one plan r) p k) (sym s.entries) (sym s.deeds)
+      (acts_by (two plan r) p k) (acts_by (one plan r) p k) (sym s.entries) (sym s.acts)
 
   -- ---- all that a driver can do
 

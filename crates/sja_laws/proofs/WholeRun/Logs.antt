@@ -5,26 +5,26 @@ use Rattle.std.specs.Prelude.{◌≢◌, replicate, slice_index, slice_index_or}
 use Rattle.std.proofs.lemmas.List.{get_or_default, length-map}
 use Rattle.lemmas.specs.Picking.{EachAfter}
 use Rattle.lemmas.proofs.Lists.{some_of}
-use Rattle.sja_link.specs.declared.entry.Entry.{Entry}
-use Rattle.sja_link.specs.Places.{place_of}
-use Rattle.sja_link.specs.Verdicts.{IsLawful}
-use Rattle.sja_link.proofs.JournalEntries.Entering.{bits_counted}
+use Rattle.sja_journal.specs.declared.entry.Entry.{Entry}
+use Rattle.sja_journal.specs.Places.{place_of}
+use Rattle.sja_journal.specs.Verdicts.{IsLawful}
+use Rattle.sja_journal.proofs.JournalEntries.Entering.{bits_counted}
 use Rattle.sja_regs.specs.Registers.{at_power_on}
-use Rattle.sja_script.specs.declared.done.Done.{Done}
-use Rattle.sja_script.specs.declared.refusal.Refusal.TheVariants.{Closed}
-use Rattle.sja_script.specs.declared.step_answer.StepAnswer.TheVariants.{Refused}
-use Rattle.sja_wire.specs.Wire.{journal_at}
+use Rattle.sja_steps.specs.declared.step_record.StepRecord.{StepRecord}
+use Rattle.sja_steps.specs.declared.refusal.Refusal.TheVariants.{Closed}
+use Rattle.sja_steps.specs.declared.step_answer.StepAnswer.TheVariants.{Refused}
+use Rattle.sja_bus_rules.specs.Wire.{journal_at}
 use Rattle.sja_plan.specs.Plan.{PlanValue, steps_at}
-use Rattle.sja_driver.specs.Accesses.{Access, accesses_at, deeds_in, done_of}
-use Rattle.sja_driver.specs.Deeds.{Deed, FitsState, is_active, opened_by}
+use Rattle.sja_driver.specs.StepRuns.{StepRun, step_runs_at, acts_in, step_record_of}
+use Rattle.sja_driver.specs.TypedActs.{TypedAct, FitsState, is_active, opened_by}
 use Rattle.sja_driver.specs.Kept.{at_power_on as kept_at_power_on}
 use Rattle.sja_driver.specs.Windows.{SeesIf}
 use Rattle.sja_log.specs.Log.{NodeValue, RunValue, journals_in}
-use Rattle.sja_log.specs.Registering.{AccessesLeadTo}
-use Rattle.sja_log.specs.Registering.AccessesLeadTo.{power_on}
-use Rattle.sja_log.specs.Runs.{IsNodeRun, IsSerialRun}
-use Rattle.sja_log.specs.Turns.{Progress, steps_done}
-use Rattle.sja_log.proofs.NodeLog.Logs.{journal_there}
+use Rattle.sja_promises.specs.Registering.{StepRunsLeadTo}
+use Rattle.sja_promises.specs.Registering.StepRunsLeadTo.{power_on}
+use Rattle.sja_promises.specs.Runs.{IsNodeRun, IsSerialRun}
+use Rattle.sja_promises.specs.Turns.{Progress, steps_done}
+use Rattle.sja_promises.proofs.NodeLog.Logs.{journal_there}
 use Rattle.sja_laws.specs.Promised.{IsPromised}
 use Rattle.sja_laws.proofs.AllNodes.Bits.{TwoRuns}
 use Rattle.sja_laws.proofs.OneNode.Coming.{is_over}
@@ -36,21 +36,21 @@ use Rattle.sja_laws.proofs.WholeRun.Nodes.{lists_once, node_once}
 use Rattle.sja_laws.proofs.WholeRun.Progressing.{all_done_at, none_done}
 use Rattle.sja_laws.proofs.WholeRun.Turns.{IsSameEnd, Known}
 
-at_node : (accesses : List (List Access)) (k : ℕ) →
-    slice_index_or (map (λ (l : List Access). deeds_in l) accesses) k [] ≡ deeds_in (accesses_at accesses k)
+at_node : (step_runs : List (List StepRun)) (k : ℕ) →
+    slice_index_or (map (λ (l : List StepRun). acts_in l) step_runs) k [] ≡ acts_in (step_runs_at step_runs k)
 at_node [] k = refl
-at_node (l ∷ accesses) zero = refl
-at_node (l ∷ accesses) (suc k) = at_node accesses k
+at_node (l ∷ step_runs) zero = refl
+at_node (l ∷ step_runs) (suc k) = at_node step_runs k
 
-promised_by : (version : ℕ) (j : List Entry) (before deeds : List Deed) →
-    EachAfter (λ b (d : Deed). FitsState version (is_active b) (opened_by b) d.step d.answer) before deeds →
-    EachAfter (λ b (d : Deed). SeesIf (is_active b) j b d) before deeds →
-    EachAfter (λ b (d : Deed). d.answer ≢ Refused Closed) before deeds →
-    EachAfter (IsPromised version j) before deeds
+promised_by : (version : ℕ) (j : List Entry) (before acts : List TypedAct) →
+    EachAfter (λ b (d : TypedAct). FitsState version (is_active b) (opened_by b) d.step d.answer) before acts →
+    EachAfter (λ b (d : TypedAct). SeesIf (is_active b) j b d) before acts →
+    EachAfter (λ b (d : TypedAct). d.answer ≢ Refused Closed) before acts →
+    EachAfter (IsPromised version j) before acts
 promised_by version j before [] fits sees patient = tt
-promised_by version j before (d ∷ deeds) fits sees patient = (
+promised_by version j before (d ∷ acts) fits sees patient = (
   record { fits = fits.0; sees = sees.0; patient = patient.0 },
-  promised_by version j (before ++ d ∷ []) deeds fits.1 sees.1 patient.1,
+  promised_by version j (before ++ d ∷ []) acts fits.1 sees.1 patient.1,
 )
 
 -- ---- a node of a log
@@ -69,8 +69,8 @@ module _ (plan : PlanValue) (log : RunValue) (h : IsSerialRun plan log) where
     pub journal_is : journal_at (journals_in log) k ≡ node_at.journal
     journal_is = journal_there log.nodes k (some_of log.nodes k inside) inside
 
-    abbrev pub steps_there : List Access
-    steps_there = accesses_at h.accesses k
+    abbrev pub steps_there : List StepRun
+    steps_there = step_runs_at h.step_runs k
 
     abbrev pub whole : List Entry
     whole = journal_at (journals_in log) k
@@ -78,31 +78,31 @@ module _ (plan : PlanValue) (log : RunValue) (h : IsSerialRun plan log) where
     pub lawful_there : IsLawful whole
     lawful_there = let n = journals_long in h.run.bus.lawful k (omega (arith, n, here))
 
-    pub runs_there : IsNodeRun plan.version node_at (deeds_in steps_there)
-    runs_there = subst (λ (l : List Deed). IsNodeRun plan.version node_at l) (at_node h.accesses k)
+    pub runs_there : IsNodeRun plan.version node_at (acts_in steps_there)
+    runs_there = subst (λ (l : List TypedAct). IsNodeRun plan.version node_at l) (at_node h.step_runs k)
         (h.run.nodes k (some_of log.nodes k inside) inside)
 
     pub of_run : IsOfRun plan.version (steps_at plan k) whole steps_there
     of_run =
         let time = h.in_time k (some_of log.nodes k inside) inside in
-        let deeds = deeds_in steps_there in
-        let promised = promised_by plan.version node_at.journal [] deeds runs_there.trace.answered.states time.sees
+        let acts = acts_in steps_there in
+        let promised = promised_by plan.version node_at.journal [] acts runs_there.trace.answered.states time.sees
         time.patient in
         record {
           lawful = lawful_there;
-          promised = subst (λ (j : List Entry). EachAfter (IsPromised plan.version j) [] deeds) (sym journal_is)
+          promised = subst (λ (j : List Entry). EachAfter (IsPromised plan.version j) [] acts) (sym journal_is)
               promised;
           first = (h.steps k (some_of log.nodes k inside) inside).first;
         }
 
-    pub done_there : map done_of steps_there ≡ node_at.done
+    pub done_there : map step_record_of steps_there ≡ node_at.done
     done_there = (h.steps k (some_of log.nodes k inside) inside).done
 
     -- the way from power-on
     pub way : Onward plan.version whole steps_there [] [] kept_at_power_on (at_power_on plan.version)
     way =
         let led = h.registers k (some_of log.nodes k inside) inside in
-        let P : List Entry → Type 0 = λ j. AccessesLeadTo plan.version j steps_there led.0 led.1 in
+        let P : List Entry → Type 0 = λ j. StepRunsLeadTo plan.version j steps_there led.0 led.1 in
         from_power_on plan.version whole steps_there whole steps_there led.0 led.1 (subst P (sym journal_is) led.2)
         (arrived whole steps_there led.0 led.1 refl refl)
 
@@ -110,7 +110,7 @@ module _ (plan : PlanValue) (log : RunValue) (h : IsSerialRun plan log) where
     pub ends_done : slice_index (map (λ (n : NodeValue). length n.done) log.nodes) k ≡ length steps_there
     ends_done =
         all_done_at log.nodes k (some_of log.nodes k inside) inside
-        ∙ ap (λ (l : List Done). length l) (sym done_there) ∙ length-map steps_there done_of
+        ∙ ap (λ (l : List StepRecord). length l) (sym done_there) ∙ length-map steps_there step_record_of
 
     pub bits_there : (place_of whole).bits ≡ log.bits
     bits_there = let n = journals_long in
@@ -123,8 +123,8 @@ module _ (plan : PlanValue) (a b : RunValue) (h : IsSerialRun plan a) (g : IsSer
   both = record {
     first = journals_in a;
     second = journals_in b;
-    all = h.accesses;
-    others = g.accesses;
+    all = h.step_runs;
+    others = g.step_runs;
     most = a.bits;
     limit = b.bits;
     wired = h.run.bus.wired;
@@ -187,12 +187,12 @@ module _ (plan : PlanValue) (a b : RunValue) (h : IsSerialRun plan a) (g : IsSer
       (t.bits_are ∙ bits ∙ sym (bits_there plan b g k here)) (t.count_is ∙ done ∙ ends_done plan b g k here) in
       let journals : m ≡ n = sym first.entries ∙ second.entries in
       let steps : x ≡ y = sym first.steps ∙ second.steps in
-      let P : List Access → Type 0 = λ l. IsNodeRun plan.version (node_at plan b g k here) (deeds_in l) in
-      node_once plan.version (node_at plan a h k here) (node_at plan b g k here) (deeds_in x)
+      let P : List StepRun → Type 0 = λ l. IsNodeRun plan.version (node_at plan b g k here) (acts_in l) in
+      node_once plan.version (node_at plan a h k here) (node_at plan b g k here) (acts_in x)
       (runs_there plan a h k here) (subst P (sym steps) (runs_there plan b g k here))
       (sym (journal_is plan a h k here) ∙ journals ∙ journal_is plan b g k here)
       (subst (λ (j : List Entry). IsLawful j) (journal_is plan a h k here) (lawful_there plan a h k here))
-      (sym (done_there plan a h k here) ∙ ap (map done_of) steps ∙ done_there plan b g k here)
+      (sym (done_there plan a h k here) ∙ ap (map step_record_of) steps ∙ done_there plan b g k here)
 
   nodes_same : a.nodes ≡ b.nodes
   nodes_same =

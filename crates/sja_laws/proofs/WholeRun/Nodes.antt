@@ -4,18 +4,18 @@ use Rattle.std.proofs.Common.{append_assoc}
 use Rattle.std.specs.Prelude.{slice_index_or}
 use Rattle.std.proofs.lemmas.List.{length-map}
 use Rattle.lemmas.proofs.Lists.{append-split}
-use Rattle.sja_link.specs.declared.down.Down.{Down}
-use Rattle.sja_link.specs.declared.down.Down.TheVariants.{Message, Off}
-use Rattle.sja_link.specs.declared.entry.Entry.{Entry}
-use Rattle.sja_link.specs.Carried.{put_of}
-use Rattle.sja_link.specs.Lists.{messages}
-use Rattle.sja_link.specs.Parts.{part}
-use Rattle.sja_link.specs.Verdicts.{IsLawful}
-use Rattle.sja_wire.specs.Lawful.{CountersAre}
-use Rattle.sja_driver.specs.Deeds.{Deed}
+use Rattle.sja_journal.specs.declared.down.Down.{Down}
+use Rattle.sja_journal.specs.declared.down.Down.TheVariants.{Message, Off}
+use Rattle.sja_journal.specs.declared.entry.Entry.{Entry}
+use Rattle.sja_journal.specs.Carried.{put_of}
+use Rattle.sja_journal.specs.Lists.{messages}
+use Rattle.sja_journal.specs.Parts.{part}
+use Rattle.sja_journal.specs.Verdicts.{IsLawful}
+use Rattle.sja_bus_rules.specs.Lawful.{CountersAre}
+use Rattle.sja_driver.specs.TypedActs.{TypedAct}
 use Rattle.sja_log.specs.Log.{ActivationValue, NodeValue}
-use Rattle.sja_log.specs.Runs.{IsNodeRun}
-use Rattle.sja_log.specs.Settling.{IsSettled}
+use Rattle.sja_promises.specs.Runs.{IsNodeRun}
+use Rattle.sja_promises.specs.Settling.{IsSettled}
 
 -- ---- lists
 
@@ -51,8 +51,8 @@ activation_once j a x y h g long =
 
 -- ---- a node
 
-module _ (version : ℕ) (m n : NodeValue) (deeds : List Deed) (h : IsNodeRun version m deeds)
-    (g : IsNodeRun version n deeds) (journal : m.journal ≡ n.journal) (lawful : IsLawful m.journal) where
+module _ (version : ℕ) (m n : NodeValue) (acts : List TypedAct) (h : IsNodeRun version m acts)
+    (g : IsNodeRun version n acts) (journal : m.journal ≡ n.journal) (lawful : IsLawful m.journal) where
   counters : CountersAre m.journal n.txerr n.rxerr
   counters = subst (λ (j : List Entry). CountersAre j n.txerr n.rxerr) (sym journal) g.counters
 

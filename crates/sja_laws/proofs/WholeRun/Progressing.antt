@@ -2,7 +2,7 @@
 use Rattle.std.proofs.Common.{◌≡◌, ◌<◌, ◌≤◌, ◌+◌, ℕ, zero, suc, List, [], ◌∷◌, length, map, refl, ap, arith}
 use Rattle.std.specs.Prelude.{replicate, set, slice_index, slice_index_or}
 use Rattle.sja_log.specs.Log.{NodeValue}
-use Rattle.sja_log.specs.Turns.{Progress, steps_done, with_steps}
+use Rattle.sja_promises.specs.Turns.{Progress, steps_done, with_steps}
 
 index_same : (l : List ℕ) (k x : ℕ) → k < length l → slice_index (set l k x) k ≡ x
 index_same [] k x less = absurd (omega (arith, less))

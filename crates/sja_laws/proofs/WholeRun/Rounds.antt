@@ -3,24 +3,24 @@ use Rattle.std.proofs.Common.{◌≡◌, ◌≢◌, ◌+◌, ◌<◌, ◌≤◌,
 use Rattle.std.proofs.Common.{◌∙◌, subst, arith, inl, inr}
 use Rattle.std.proofs.lemmas.Bool.{cases_eq, cases_lt}
 use Rattle.std.proofs.lemmas.List.{length-append}
-use Rattle.sja_link.specs.declared.entry.Entry.{Entry}
-use Rattle.sja_link.specs.declared.entry.Entry.TheVariants.{Bit}
-use Rattle.sja_link.specs.BitEntries.{HasOneBit, abort_as, judged_as, off_as}
+use Rattle.sja_journal.specs.declared.entry.Entry.{Entry}
+use Rattle.sja_journal.specs.declared.entry.Entry.TheVariants.{Bit}
+use Rattle.sja_journal.specs.BitEntries.{HasOneBit, abort_as, judged_as, off_as}
 use Rattle.sja_regs.specs.Registers.{at_power_on}
 use Rattle.sja_regs.specs.declared.bus_turn.BusTurn.{BusTurn}
 use Rattle.sja_regs.specs.declared.orders.Orders.{Orders}
-use Rattle.sja_script.specs.Striking.{Strikes}
-use Rattle.sja_script.specs.declared.strike.Strike.{Strike}
-use Rattle.sja_wire.specs.Lawful.{IsBusRun}
-use Rattle.sja_wire.specs.Reasons.{room_for}
-use Rattle.sja_wire.specs.Telling.{SaysAlone}
-use Rattle.sja_wire.specs.Wire.{journal_at}
+use Rattle.sja_steps.specs.Striking.{Strikes}
+use Rattle.sja_steps.specs.declared.strike.Strike.{Strike}
+use Rattle.sja_bus_rules.specs.Lawful.{IsBusRun}
+use Rattle.sja_bus_rules.specs.Reasons.{room_for}
+use Rattle.sja_bus_rules.specs.Telling.{SaysAlone}
+use Rattle.sja_bus_rules.specs.Wire.{journal_at}
 use Rattle.sja_bus.specs.Boards.{HasOrders}
 use Rattle.sja_bus.specs.UntilTold.{HasBitsMore, IsLastTurn, NoMore, RunsNone}
 use Rattle.sja_bus.specs.UntilTold.HasBitsMore.{none, one_more as one_bit_more}
 use Rattle.sja_bus.specs.UntilTold.NoMore.{all_run, spent, rests, struck, full}
 use Rattle.sja_bus.specs.UntilTold.RunsNone.{no_more as none_more, untold, aborts}
-use Rattle.sja_driver.specs.Deeds.{Deed}
+use Rattle.sja_driver.specs.TypedActs.{TypedAct}
 use Rattle.sja_serial.specs.Bits.{TakesBit, TakesBits}
 use Rattle.sja_serial.specs.Bits.TakesBits.{no_bit, one_more}
 use Rattle.sja_serial.specs.Serial.{Setup, SerialValue, StandsAt}
@@ -60,23 +60,23 @@ longer_one j k h =
 
 -- ---- bits of a run
 
-module _ (setup : Setup) (deeds : List (List Deed)) where
+module _ (setup : Setup) (acts : List (List TypedAct)) where
   -- after so many bits there was one more
   record IsPast (Before : SerialValue → Type 0) (was : SerialValue) (n : ℕ) : Type 0 where
     pub mid : SerialValue
     pub next : SerialValue
-    pub front : TakesBits setup deeds Before was n mid
+    pub front : TakesBits setup acts Before was n mid
     pub holds : Before mid
-    pub bit : TakesBit setup deeds mid next
+    pub bit : TakesBit setup acts mid next
 
   past : (Before : SerialValue → Type 0) (was now : SerialValue) (n m : ℕ) → n < m →
-      TakesBits setup deeds Before was m now → IsPast Before was n
+      TakesBits setup acts Before was m now → IsPast Before was n
   past Before was now n _ less (no_bit _) = absurd (omega (arith, less))
   past Before was now n _ less (one_more _ mid _ m bits holds bit) = elim (cases_eq n m) [
     | inl same ↦ record {
       mid = mid;
       next = now;
-      front = subst (λ (k : ℕ). TakesBits setup deeds Before was k mid) (sym same) bits;
+      front = subst (λ (k : ℕ). TakesBits setup acts Before was k mid) (sym same) bits;
       holds = holds;
       bit = bit;
     }
@@ -84,7 +84,7 @@ module _ (setup : Setup) (deeds : List (List Deed)) where
   ]
 
   alike_bits : (Before Also : SerialValue → Type 0) (was a b : SerialValue) (n m : ℕ) → n ≡ m →
-      TakesBits setup deeds Before was n a → TakesBits setup deeds Also was m b → AreAlike a b
+      TakesBits setup acts Before was n a → TakesBits setup acts Also was m b → AreAlike a b
   alike_bits Before Also was a b _ _ same (no_bit _) (no_bit _) = record { journals = refl; ports = refl; bits = refl }
   alike_bits Before Also was a b _ _ same (no_bit _) (one_more _ mid _ m bits holds bit) = absurd (omega (arith, same))
   alike_bits Before Also was a b _ _ same (one_more _ mid _ n bits holds bit) (no_bit _) = absurd (omega (arith, same))
@@ -93,15 +93,15 @@ module _ (setup : Setup) (deeds : List (List Deed)) where
 
   -- what holds of every bus holds after a bit
   lawful_at : (Before : SerialValue → Type 0) (was now : SerialValue) (n : ℕ) → n ≢ 0 →
-      TakesBits setup deeds Before was n now → IsBusRun now.bus.script now.bus.run now.bus.journals
+      TakesBits setup acts Before was n now → IsBusRun now.bus.script now.bus.run now.bus.journals
   lawful_at Before was now _ some (no_bit _) = absurd (some refl)
   lawful_at Before was now _ some (one_more _ mid _ n bits holds bit) =
       subst (λ (l : List Strike). IsBusRun l now.bus.run now.bus.journals) (sym bit.stands.script)
       (subst (λ (k : ℕ). IsBusRun setup.strikes k now.bus.journals) bit.stands.bits bit.lawful)
 
   -- and each journal is longer
-  longer : (was now : SerialValue) (n node : ℕ) → n ≢ 0 → StandsAt setup was deeds → node < setup.nodes →
-      TakesBits setup deeds (NoneTold was) was n now →
+  longer : (was now : SerialValue) (n node : ℕ) → n ≢ 0 → StandsAt setup was acts → node < setup.nodes →
+      TakesBits setup acts (NoneTold was) was n now →
       length (journal_at was.bus.journals node) < length (journal_at now.bus.journals node)
   longer was now _ node some stands few (no_bit _) = absurd (some refl)
   longer was now _ node some stands few (one_more _ mid _ n bits holds bit) =
@@ -113,22 +113,22 @@ module _ (setup : Setup) (deeds : List (List Deed)) where
 
 -- ---- two rounds
 
-module _ (setup : Setup) (deeds : List (List Deed)) (was now other : SerialValue) (count n m : ℕ)
-    (stands : StandsAt setup was deeds) (h : IsRound setup deeds was count n now)
-    (g : IsRound setup deeds was count m other) (less : n < m) where
+module _ (setup : Setup) (acts : List (List TypedAct)) (was now other : SerialValue) (count n m : ℕ)
+    (stands : StandsAt setup was acts) (h : IsRound setup acts was count n now)
+    (g : IsRound setup acts was count m other) (less : n < m) where
   abbrev Before : SerialValue → Type 0
   Before = NoneTold was
 
-  after : StandsAt setup now deeds
-  after = stands_bits setup deeds Before was now n h.bits stands
+  after : StandsAt setup now acts
+  after = stands_bits setup acts Before was now n h.bits stands
 
   bits_now : now.bits ≡ was.bits + n
-  bits_now = bits_run setup deeds Before was now n h.bits
+  bits_now = bits_run setup acts Before was now n h.bits
 
   enough : was.bits + m ≤ setup.bits
   enough =
-      let last = stands_bits setup deeds Before was other m g.bits stands in
-      let all = last.all_bits in let bits = last.bits in let run = bits_run setup deeds Before was other m g.bits in
+      let last = stands_bits setup acts Before was other m g.bits stands in
+      let all = last.all_bits in let bits = last.bits in let run = bits_run setup acts Before was other m g.bits in
       omega (arith, all, bits, run)
 
   one_at_least : n ≢ 0
@@ -144,8 +144,8 @@ module _ (setup : Setup) (deeds : List (List Deed)) (was now other : SerialValue
       length (journal_at now.bus.journals node) + 4 ≤ (room_for (now.bus.run + now.bus.left) now.bus.steps node).all
   roomy node few =
       let bits = bits_now in let all = enough in
-      (room setup now deeds after (omega (arith, bits, all, less))
-      (lawful_at setup deeds Before was now n one_at_least h.bits) node few).all
+      (room setup now acts after (omega (arith, bits, all, less))
+      (lawful_at setup acts Before was now n one_at_least h.bits) node few).all
 
   struck_not : (node : ℕ) → node < 8 → Strikes now.bus.script now.bus.run node → ⊥
   struck_not node low strikes =
@@ -157,12 +157,12 @@ module _ (setup : Setup) (deeds : List (List Deed)) (was now other : SerialValue
   told_not : (node : ℕ) (turn : BusTurn) → node < length now.bus.journals →
       IsLastTurn (journal_at now.bus.journals node) turn → ⊥
   told_not node turn few last =
-      let x = past setup deeds Before was other n m less g.bits in
-      let alike = alike_bits setup deeds Before Before was now x.mid n n refl h.bits x.front in
+      let x = past setup acts Before was other n m less g.bits in
+      let alike = alike_bits setup acts Before Before was now x.mid n n refl h.bits x.front in
       let there = after.count.journals in let here = stands.count.journals in
       let low : node < setup.nodes = omega (arith, few, there) in
       tells_last (x.holds.journals node (omega (arith, low, here)))
-      (longer setup deeds was x.mid n node one_at_least stands low x.front) turn
+      (longer setup acts was x.mid n node one_at_least stands low x.front) turn
       (subst (λ (l : List (List Entry)). IsLastTurn (journal_at l node) turn) alike.journals last)
 
   -- nothing stood in the way of the first bits
@@ -178,7 +178,7 @@ module _ (setup : Setup) (deeds : List (List Deed)) (was now other : SerialValue
       let here = stands.count.journals in let there = after.count.journals in
       let low : node < setup.nodes = omega (arith, few, here) in
       let space = roomy node (omega (arith, low, there)) in
-      let more = longer setup deeds was now n node one_at_least stands low h.bits in
+      let more = longer setup acts was now n node one_at_least stands low h.bits in
       let bits : now.bus.run + now.bus.left ≡ was.bus.run + was.bus.left = after.all_bits ∙ sym stands.all_bits in
       let steps : now.bus.steps ≡ was.bus.steps = after.steps ∙ sym stands.steps in
       let same : (room_for (now.bus.run + now.bus.left) now.bus.steps node).all
@@ -205,12 +205,12 @@ module _ (setup : Setup) (deeds : List (List Deed)) (was now other : SerialValue
   not_shorter : ⊥
   not_shorter = ends_not (h.longest one_at_least)
 
-pub round_once : (setup : Setup) (deeds : List (List Deed)) (was now other : SerialValue) (count n m : ℕ) →
-    StandsAt setup was deeds → IsRound setup deeds was count n now → IsRound setup deeds was count m other → n ≡ m
-round_once setup deeds was now other count n m stands h g = elim (cases_lt n m) [
-  | inl less ↦ absurd (not_shorter setup deeds was now other count n m stands h g less)
+pub round_once : (setup : Setup) (acts : List (List TypedAct)) (was now other : SerialValue) (count n m : ℕ) →
+    StandsAt setup was acts → IsRound setup acts was count n now → IsRound setup acts was count m other → n ≡ m
+round_once setup acts was now other count n m stands h g = elim (cases_lt n m) [
+  | inl less ↦ absurd (not_shorter setup acts was now other count n m stands h g less)
   | inr far ↦ elim (cases_lt m n) [
-    | inl less ↦ absurd (not_shorter setup deeds was other now count m n stands g h less)
+    | inl less ↦ absurd (not_shorter setup acts was other now count m n stands g h less)
     | inr near ↦ omega (arith, far, near)
   ]
 ]

@@ -1,11 +1,11 @@
 -- A sweep of a plan has one text.
 use Rattle.std.proofs.Common.{◌≡◌, ℕ, Option, List, [], ◌∷◌, map, refl, sym, ap, ◌∙◌, subst}
 use Rattle.std.specs.List.{AllZip}
-use Rattle.can_node.specs.declared.cause.Cause.{Cause}
-use Rattle.sja_link.specs.declared.entry.Entry.{Entry}
+use Rattle.can_node_rules.specs.declared.cause.Cause.{Cause}
+use Rattle.sja_journal.specs.declared.entry.Entry.{Entry}
 use Rattle.sja_plan.specs.Plan.{PlanValue}
 use Rattle.sja_log.specs.Log.{NodeValue, RunValue}
-use Rattle.sja_log.specs.Runs.{IsSerialRun}
+use Rattle.sja_promises.specs.Runs.{IsSerialRun}
 use Rattle.sja_replay.proofs.Once.Lists.{happened_once}
 use Rattle.sja_sweep.specs.declared.sweeping.Sweeping.{Sweeping}
 use Rattle.sja_sweep.specs.Errors.{HasErrors, IsRan, TrialRunValue, error_in}

@@ -3,20 +3,20 @@ use Rattle.std.proofs.Common.{◌≡◌, ◌<◌, ◌≤◌, ◌+◌, ◌-◌, �
 use Rattle.std.proofs.Common.{arith, inl, inr, take_at}
 use Rattle.std.specs.Prelude.{slice_index_or}
 use Rattle.std.proofs.lemmas.Bool.{cases_eq, cases_lt}
-use Rattle.sja_link.specs.NodeWords.{NodeEntry}
-use Rattle.sja_link.specs.declared.entry.Entry.{Entry}
-use Rattle.sja_link.specs.Records.{record_of}
-use Rattle.sja_script.specs.declared.step.Step.{Step}
-use Rattle.sja_wire.specs.Wire.{journal_at}
+use Rattle.sja_journal.specs.NodeWords.{NodeEntry}
+use Rattle.sja_journal.specs.declared.entry.Entry.{Entry}
+use Rattle.sja_journal.specs.Records.{record_of}
+use Rattle.sja_steps.specs.declared.step.Step.{Step}
+use Rattle.sja_bus_rules.specs.Wire.{journal_at}
 use Rattle.sja_plan.specs.Plan.{PlanValue, steps_at}
 use Rattle.sja_plan.specs.declared.turn.Turn.{Turn}
-use Rattle.sja_driver.specs.Accesses.{Access, accesses_at, deeds_in}
+use Rattle.sja_driver.specs.StepRuns.{StepRun, step_runs_at, acts_in}
 use Rattle.sja_driver.specs.Moments.{record_at}
-use Rattle.sja_driver.specs.Resting.{IsAtRest}
+use Rattle.sja_driver.specs.NodeRest.{IsAtRest}
 use Rattle.sja_log.specs.declared.end.End.{End}
-use Rattle.sja_log.specs.Turns.{Acts, AllAtRest, DoesSteps, IsUnmet, Progress, RunsTo, steps_done}
-use Rattle.sja_log.specs.Turns.{with_bits, with_steps}
-use Rattle.sja_log.proofs.Trace.AccessDeeds.{forget}
+use Rattle.sja_promises.specs.Turns.{Acts, AllAtRest, DoesSteps, IsUnmet, Progress, RunsTo, steps_done}
+use Rattle.sja_promises.specs.Turns.{with_bits, with_steps}
+use Rattle.sja_promises.proofs.Trace.StepRunActs.{forget}
 use Rattle.sja_laws.proofs.AllNodes.Bits.{AllTogether, Later, TwoRuns, many_bits}
 use Rattle.sja_laws.proofs.OneNode.Onward.{goes_on, steps_come}
 use Rattle.sja_laws.proofs.OneNode.Stuck.{moment_is_front}
@@ -26,57 +26,57 @@ use Rattle.sja_laws.proofs.WholeRun.NodeTurn.{Turns, as_many, turn_both}
 use Rattle.sja_laws.proofs.WholeRun.Progressing.{steps_nothing, steps_other, steps_same}
 
 -- the record of a node at a point to which its run has come
-record_then : (version : ℕ) (whole : List Entry) (all : List Access) (other : List Entry) (others : List Access)
+record_then : (version : ℕ) (whole : List Entry) (all : List StepRun) (other : List Entry) (others : List StepRun)
     (bits count : ℕ) (t : Together version whole all other others bits count) →
-    record_at whole (deeds_in (take count all)) bits ≡ record_of t.entries
+    record_at whole (acts_in (take count all)) bits ≡ record_of t.entries
 record_then version whole all other others bits count t =
     let come = steps_come version whole all t.entries t.steps t.kept t.port t.one in
     let done : take count all ≡ t.steps =
     ap (λ l. take count l) come.is ∙ take_at t.steps come.more count t.count_is in
-    ap (λ l. record_at whole (deeds_in l) bits) done
-    ∙ ap record_of (moment_is_front version whole t.entries (deeds_in t.steps) t.port bits
+    ap (λ l. record_at whole (acts_in l) bits) done
+    ∙ ap record_of (moment_is_front version whole t.entries (acts_in t.steps) t.port bits
     (forget version t.entries t.steps t.kept t.port t.past)
     (goes_on version whole all t.entries t.steps t.kept t.port t.one) t.bits_are)
 
-record_two : (version : ℕ) (whole : List Entry) (all : List Access) (other : List Entry) (others : List Access)
+record_two : (version : ℕ) (whole : List Entry) (all : List StepRun) (other : List Entry) (others : List StepRun)
     (bits count : ℕ) (t : Together version whole all other others bits count) →
-    record_at other (deeds_in (take count others)) bits ≡ record_of t.entries
+    record_at other (acts_in (take count others)) bits ≡ record_of t.entries
 record_two version whole all other others bits count t =
     let come = steps_come version other others t.entries t.steps t.kept t.port t.two in
     let done : take count others ≡ t.steps =
     ap (λ l. take count l) come.is ∙ take_at t.steps come.more count t.count_is in
-    ap (λ l. record_at other (deeds_in l) bits) done
-    ∙ ap record_of (moment_is_front version other t.entries (deeds_in t.steps) t.port bits
+    ap (λ l. record_at other (acts_in l) bits) done
+    ∙ ap record_of (moment_is_front version other t.entries (acts_in t.steps) t.port bits
     (forget version t.entries t.steps t.kept t.port t.past)
     (goes_on version other others t.entries t.steps t.kept t.port t.two) t.bits_are)
 
 -- the turn of a node, as one node has it
-turn_of : (plan : PlanValue) (journals : List (List Entry)) (accesses : List (List Access)) (p : Progress)
+turn_of : (plan : PlanValue) (journals : List (List Entry)) (step_runs : List (List StepRun)) (p : Progress)
     (k n m : ℕ) → k < length p.done →
-    DoesSteps (record { plan = plan; journals = journals; accesses = accesses }) p k n m →
-    Turns plan.version (steps_at plan k) (journal_at journals k) (accesses_at accesses k) p.bits (steps_done p k) n m
-turn_of plan journals accesses p k n m there d = record {
+    DoesSteps (record { plan = plan; journals = journals; step_runs = step_runs }) p k n m →
+    Turns plan.version (steps_at plan k) (journal_at journals k) (step_runs_at step_runs k) p.bits (steps_done p k) n m
+turn_of plan journals step_runs p k n m there d = record {
   few = d.most;
   exist = d.exist;
   now = d.now;
   stuck = λ fewer.
       (let P : ℕ → Type 0 = λ c. (length (steps_at plan k) ≤ c)
       ⊎ ((s : Step) → IsUnmet plan.version (journal_at journals k)
-      (deeds_in (take c (accesses_at accesses k))) p.bits (slice_index_or (steps_at plan k) c s)) in
+      (acts_in (take c (step_runs_at step_runs k))) p.bits (slice_index_or (steps_at plan k) c s)) in
       subst P (steps_same p k m there) (d.stuck fewer).why);
 }
 
 module _ (plan : PlanValue) (r : TwoRuns plan) where
   abbrev pub one : Acts
-  one = record { plan = plan; journals = r.first; accesses = r.all }
+  one = record { plan = plan; journals = r.first; step_runs = r.all }
 
   abbrev pub two : Acts
-  two = record { plan = plan; journals = r.second; accesses = r.others }
+  two = record { plan = plan; journals = r.second; step_runs = r.others }
 
   abbrev pub Both : ℕ → (ℕ → ℕ) → Type 0
   Both = AllTogether plan r
 
-  abbrev pub Late : List (List Access) → ℕ → (ℕ → ℕ) → Type 0
+  abbrev pub Late : List (List StepRun) → ℕ → (ℕ → ℕ) → Type 0
   Late = Later plan r
 
   bits_more : (n bits : ℕ) (done : ℕ → ℕ) → Both bits done → bits + n ≤ r.most → bits + n ≤ r.limit →
@@ -89,20 +89,20 @@ module _ (plan : PlanValue) (r : TwoRuns plan) where
   rest_there p bits t h k here =
       let x = t k here in
       let P : List NodeEntry → Type 0 = λ l. IsAtRest l in
-      let a = record_then plan.version (journal_at r.first k) (accesses_at r.all k) (journal_at r.second k)
-      (accesses_at r.others k) bits (steps_done p k) x in
-      let b = record_two plan.version (journal_at r.first k) (accesses_at r.all k) (journal_at r.second k)
-      (accesses_at r.others k) bits (steps_done p k) x in
+      let a = record_then plan.version (journal_at r.first k) (step_runs_at r.all k) (journal_at r.second k)
+      (step_runs_at r.others k) bits (steps_done p k) x in
+      let b = record_two plan.version (journal_at r.first k) (step_runs_at r.all k) (journal_at r.second k)
+      (step_runs_at r.others k) bits (steps_done p k) x in
       subst P (a ∙ sym b) (h k here)
 
   pub rest_here : (p : Progress) (bits : ℕ) → Both bits (steps_done p) → AllAtRest two p bits → AllAtRest one p bits
   rest_here p bits t h k here =
       let x = t k here in
       let P : List NodeEntry → Type 0 = λ l. IsAtRest l in
-      let a = record_then plan.version (journal_at r.first k) (accesses_at r.all k) (journal_at r.second k)
-      (accesses_at r.others k) bits (steps_done p k) x in
-      let b = record_two plan.version (journal_at r.first k) (accesses_at r.all k) (journal_at r.second k)
-      (accesses_at r.others k) bits (steps_done p k) x in
+      let a = record_then plan.version (journal_at r.first k) (step_runs_at r.all k) (journal_at r.second k)
+      (step_runs_at r.others k) bits (steps_done p k) x in
+      let b = record_two plan.version (journal_at r.first k) (step_runs_at r.all k) (journal_at r.second k)
+      (step_runs_at r.others k) bits (steps_done p k) x in
       subst P (b ∙ sym a) (h k here)
 
   -- ---- the end
@@ -113,10 +113,10 @@ module _ (plan : PlanValue) (r : TwoRuns plan) where
     pub together : Both q.bits (steps_done q)
 
   -- all steps are done where the run ends
-  abbrev pub AllDone : List (List Access) → Progress → Type 0
-  AllDone x q = (k : ℕ) → k < length plan.nodes → steps_done q k ≡ length (accesses_at x k)
+  abbrev pub AllDone : List (List StepRun) → Progress → Type 0
+  AllDone x q = (k : ℕ) → k < length plan.nodes → steps_done q k ≡ length (step_runs_at x k)
 
-  none_late : (x : List (List Access)) (n : ℕ) (q : Progress) → AllDone x q → Late x n (steps_done q)
+  none_late : (x : List (List StepRun)) (n : ℕ) (q : Progress) → AllDone x q → Late x n (steps_done q)
   none_late x n q all_of k i d here from less =
       let e = all_of k here in absurd (omega (arith, e, from, less))
 
@@ -175,7 +175,7 @@ module _ (plan : PlanValue) (r : TwoRuns plan) where
       let u = k.bits in
       let v = ap (λ (o : Progress). o.bits) (sym is) ∙ k.spent_bits in
       let done : AllDone r.others p = subst (λ (o : Progress). (m : ℕ) → m < length plan.nodes →
-      steps_done o m ≡ length (accesses_at r.others m)) is k.also in
+      steps_done o m ≡ length (step_runs_at r.others m)) is k.also in
       bits_more a p.bits (steps_done p) k.together (omega (arith, x, u)) (omega (arith, within, v))
       (late_one (with_bits p a) q turns e h k.long k.done) (none_late r.others (p.bits + a) p done)
 
@@ -186,7 +186,7 @@ module _ (plan : PlanValue) (r : TwoRuns plan) where
       let u = ap (λ (o : Progress). o.bits) (sym is) ∙ k.bits in
       let v = k.spent_bits in
       let done : AllDone r.all p = subst (λ (o : Progress). (m : ℕ) → m < length plan.nodes →
-      steps_done o m ≡ length (accesses_at r.all m)) is k.done in
+      steps_done o m ≡ length (step_runs_at r.all m)) is k.done in
       bits_more b p.bits (steps_done p) k.together (omega (arith, within, u)) (omega (arith, y, v))
       (none_late r.all (p.bits + b) p done) (late_two (with_bits p b) s turns f g k.long k.also)
 
@@ -204,14 +204,14 @@ module _ (plan : PlanValue) (r : TwoRuns plan) where
         let there : k < length p.done = omega (arith, here, long) in
         let x = turn_of plan r.first r.all p k most_steps m there a in
         let y = turn_of plan r.second r.others p k most_steps n there b in
-        let equal = as_many plan.version (steps_at plan k) (journal_at r.first k) (accesses_at r.all k)
-        (journal_at r.second k) (accesses_at r.others k) (r.runs k here) (r.too k here) p.bits (steps_done p k)
+        let equal = as_many plan.version (steps_at plan k) (journal_at r.first k) (step_runs_at r.all k)
+        (journal_at r.second k) (step_runs_at r.others k) (r.runs k here) (r.too k here) p.bits (steps_done p k)
         most_steps m n x y (t k here) in
-        let now = turn_both plan.version (steps_at plan k) (journal_at r.first k) (accesses_at r.all k)
-        (journal_at r.second k) (accesses_at r.others k) (r.runs k here) (r.too k here) p.bits (steps_done p k)
+        let now = turn_both plan.version (steps_at plan k) (journal_at r.first k) (step_runs_at r.all k)
+        (journal_at r.second k) (step_runs_at r.others k) (r.runs k here) (r.too k here) p.bits (steps_done p k)
         most_steps m n x y (t k here) in
-        let T : ℕ → ℕ → Type 0 = λ i c. Together plan.version (journal_at r.first i) (accesses_at r.all i)
-        (journal_at r.second i) (accesses_at r.others i) p.bits c in
+        let T : ℕ → ℕ → Type 0 = λ i c. Together plan.version (journal_at r.first i) (step_runs_at r.all i)
+        (journal_at r.second i) (step_runs_at r.others i) p.bits c in
         record {
           same = ap (λ c. with_steps p k c) equal;
           together = λ i inside. elim (cases_eq k i) [

@@ -2,16 +2,16 @@
 use Rattle.std.proofs.Common.{◌≡◌, ℕ, suc, Bool, true, false, List, [], ◌∷◌, ◌++◌, refl, sym, ap}
 use Rattle.std.proofs.Common.{◌∙◌, subst, append_assoc, append-nil, arith, inl, inr}
 use Rattle.std.proofs.lemmas.Bool.{cases_eq}
-use Rattle.sja_link.specs.declared.entry.Entry.{Entry}
-use Rattle.sja_link.specs.declared.entry.Entry.TheVariants.{Abort}
-use Rattle.sja_link.specs.Lists.{Lists, OthersStand, Carries, Keeps}
-use Rattle.sja_link.specs.Places.{past, place_of}
-use Rattle.sja_link.specs.Parts.{part}
-use Rattle.sja_link.specs.Accounts.{Account, account, with_entry}
-use Rattle.sja_link.proofs.JournalEntries.Entering.{account_here, account_else, part_else}
-use Rattle.sja_link.specs.Links.{Grows}
-use Rattle.sja_link.specs.Inside.Moving.{Moves, Goes}
-use Rattle.sja_link.specs.BitEntries.{MayHaveAbort, abort_as}
+use Rattle.sja_journal.specs.declared.entry.Entry.{Entry}
+use Rattle.sja_journal.specs.declared.entry.Entry.TheVariants.{Abort}
+use Rattle.sja_journal.specs.Lists.{Lists, OthersStand, Carries}
+use Rattle.sja_journal.specs.Places.{past, place_of}
+use Rattle.sja_journal.specs.Parts.{part}
+use Rattle.sja_journal.specs.Accounts.{Account, account, with_entry}
+use Rattle.sja_journal.proofs.JournalEntries.Entering.{account_here, account_else, part_else}
+use Rattle.sja_journal.specs.Links.{Grows}
+use Rattle.sja_link.specs.Moving.{Moves, Goes}
+use Rattle.sja_journal.specs.BitEntries.{MayHaveAbort, abort_as}
 
 pub grows_refl : (j : List Entry) → Grows j j
 grows_refl j = ([], sym (append-nil j))
@@ -89,15 +89,6 @@ moves_trans stands x y z j k l a p q = record {
   others = λ b n l s. q.others b n l (p.others b n l s);
   parts = λ b n. q.parts b n ∙ p.parts b n;
   grows = grows_trans j k l p.grows q.grows;
-}
-
-pub moves_none : {E : Type 0} (stands : E → ℕ → Lists → Type 0) (x y : E) (j : List Entry) (a : ℕ) →
-    OthersStand stands a x y → Keeps stands a x y → Moves stands x y j j a
-moves_none stands x y j a others f = record {
-  here = λ h. f (account j a h);
-  others = others;
-  parts = λ b n. refl;
-  grows = grows_refl j;
 }
 
 -- an abort, or none

@@ -1,22 +1,22 @@
 -- The order of what the bus enters, with an entry more.
 use Rattle.std.proofs.Common.{◌≡◌, ℕ, ◌+◌, ◌≤◌, List, [], ◌∷◌, ◌++◌, refl, sym, ap, ◌∙◌, subst, arith, inl, inr}
 use Rattle.std.proofs.lemmas.Bool.{cases_eq}
-use Rattle.sja_link.specs.declared.up.Up.TheVariants.{Start, Credit, Send, Stop}
-use Rattle.sja_link.specs.declared.entry.Entry.{Entry}
-use Rattle.sja_link.specs.declared.entry.Entry.TheVariants.{Bit, Up as Item, Abort, Stored, Overrun, Off}
-use Rattle.sja_link.specs.Carried.{put_of, taken_in, taken_of}
-use Rattle.sja_link.specs.Free.{IsFree, credit_in, bytes_in}
+use Rattle.sja_journal.specs.declared.up.Up.TheVariants.{Start, Credit, Send, Stop}
+use Rattle.sja_journal.specs.declared.entry.Entry.{Entry}
+use Rattle.sja_journal.specs.declared.entry.Entry.TheVariants.{Bit, Up as Item, Abort, Stored, Overrun, Off}
+use Rattle.sja_journal.specs.Carried.{put_of, taken_in, taken_of}
+use Rattle.sja_journal.specs.Free.{IsFree, credit_in, bytes_in}
 use Rattle.lemmas.specs.Gathering.{total}
-use Rattle.sja_link.specs.Parts.{part}
+use Rattle.sja_journal.specs.Parts.{part}
 use Rattle.lemmas.specs.Picking.{EachAfter}
-use Rattle.sja_link.specs.Places.{past, place_of}
+use Rattle.sja_journal.specs.Places.{past, place_of}
 use Rattle.sja_link.specs.World.{is_off, is_start, is_stop}
 use Rattle.lemmas.proofs.Gathered.{gathered_push, total_append, total_push}
-use Rattle.sja_link.proofs.JournalEntries.Entering.{part_here, part_else}
+use Rattle.sja_journal.proofs.JournalEntries.Entering.{part_here, part_else}
 use Rattle.lemmas.proofs.Picking.{each_push}
-use Rattle.sja_link.proofs.JournalEntries.Openings.{part_opens}
-use Rattle.sja_link.specs.Links.{stops_in}
-use Rattle.sja_link.specs.OutOfOrder.{HasOff}
+use Rattle.sja_journal.proofs.JournalEntries.Openings.{part_opens}
+use Rattle.sja_journal.specs.Links.{stops_in}
+use Rattle.sja_journal.specs.OutOfOrder.{HasOff}
 use Rattle.sja_link.specs.Orderly.{IsRunning, IsOrderly, AreOrderly}
 
 -- an entry more of this activation

@@ -2,15 +2,15 @@
 use Rattle.std.proofs.Common.{◌≡◌, ◌≢◌, ℕ, ◌<◌, ◌≤◌, List, [], ◌∷◌, length, get_or, drop, zero, suc, arith, refl}
 use Rattle.std.proofs.Common.{sym, ap, ◌∙◌, subst}
 use Rattle.std.proofs.lemmas.List.{drop_all}
-use Rattle.can_node.specs.declared.config.Config.{Config}
-use Rattle.can_node.specs.declared.request.Request.{Request}
-use Rattle.sja_link.specs.declared.down.Down.{Down}
-use Rattle.sja_link.specs.declared.down.Down.TheVariants.{Message, Off}
-use Rattle.sja_link.specs.declared.up.Up.{Up}
-use Rattle.sja_link.specs.declared.up.Up.TheVariants.{Start, Credit, Send, Stop}
+use Rattle.can_node_rules.specs.declared.config.Config.{Config}
+use Rattle.can_node_rules.specs.declared.request.Request.{Request}
+use Rattle.sja_journal.specs.declared.down.Down.{Down}
+use Rattle.sja_journal.specs.declared.down.Down.TheVariants.{Message, Off}
+use Rattle.sja_journal.specs.declared.up.Up.{Up}
+use Rattle.sja_journal.specs.declared.up.Up.TheVariants.{Start, Credit, Send, Stop}
 use Rattle.lemmas.specs.Gathering.{total}
 use Rattle.lemmas.proofs.Gathered.{counted_here}
-use Rattle.sja_link.specs.Lists.{messages}
+use Rattle.sja_journal.specs.Lists.{messages}
 use Rattle.sja_link.specs.World.{is_start, is_send, is_stop, is_off}
 use Rattle.sja_link.specs.WorldEvents.{first_credit}
 

@@ -3,22 +3,22 @@ use Rattle.std.proofs.Common.{◌≡◌, ℕ, ◌+◌, ◌-◌, ◌<◌, ◌≤�
 use Rattle.std.proofs.Common.{drop, refl, sym, ap, ◌∙◌, subst, append-nil, add-one, arith}
 use Rattle.std.proofs.lemmas.List.{take-append-le, length-take-le, length-append}
 use Rattle.std.proofs.Math.Seq.{take-add, take-suc}
-use Rattle.sja_link.specs.declared.down.Down.{Down}
-use Rattle.sja_link.specs.declared.up.Up.{Up}
+use Rattle.sja_journal.specs.declared.down.Down.{Down}
+use Rattle.sja_journal.specs.declared.up.Up.{Up}
 use Rattle.sja_link.specs.declared.event.Event.{Event}
 use Rattle.sja_link.specs.declared.event.Event.TheVariants.{Get, Release, Take}
 use Rattle.lemmas.specs.Gathering.{total}
-use Rattle.sja_link.specs.Lists.{messages}
-use Rattle.sja_link.specs.Free.{credit_of}
+use Rattle.sja_journal.specs.Lists.{messages}
+use Rattle.sja_journal.specs.Free.{credit_of}
 use Rattle.sja_link.specs.World.{WorldValue, bytes_of, credits_of, free, is_off, is_stop}
 use Rattle.sja_link.specs.WorldEvents.{Allowed, MayRelease, first_credit, done, Steps}
 use Rattle.sja_link.specs.Inside.Fields.{world_of, IsWorld, IsStored}
-use Rattle.sja_link.specs.declared.up.Up.TheVariants.{Credit}
+use Rattle.sja_journal.specs.declared.up.Up.TheVariants.{Credit}
 use Rattle.sja_link.proofs.JournalEntries.ListCounts.{credits_both, messages_both}
 use Rattle.sja_link.proofs.WorldSteps.WorldBudget.{budget}
 use Rattle.sja_link.proofs.WorldSteps.Worlds.{world_next}
 use Rattle.lemmas.proofs.Gathered.{total_push}
-use Rattle.sja_link.specs.declared.down.Down.TheVariants.{Message, Off}
+use Rattle.sja_journal.specs.declared.down.Down.TheVariants.{Message, Off}
 
 -- ---- what a step answers
 
@@ -198,32 +198,6 @@ release_may put got given taken may n first on running =
   where
     credit_there : [] ≡ Credit n ∷ [] → ⊥
     credit_there same = let k = ap (λ (l : List Up). length l) same in omega (arith, k)
-
-pub release_done : (put : List Down) (got : ℕ) (given : List Up) (taken : ℕ) (may : Bool)
-    (n : ℕ) → taken ≤ length given →
-    first_credit (drop (length (credits_of given)) (messages (take got put))) ≡ Credit n ∷ [] →
-    world_of put got (given ++ Credit n ∷ []) taken may ≡ done (world_of put got given taken may) Release
-release_done put got given taken may n few first =
-    ap (λ l. let w : WorldValue = record {
-      lists = record {
-        put = put;
-        taken = l;
-        got = take got put;
-        given = given
-            ++ Credit n ∷ [];
-      };
-      may_send = may;
-    } in w)
-    (take-append-le taken given (Credit n ∷ []) few)
-    ∙ ap (λ l. let w : WorldValue = record {
-      lists = record {
-        put = put;
-        taken = take taken given;
-        got = take got put;
-        given = given ++ l;
-      };
-      may_send = may;
-    } in w) (sym first)
 
 pub release_stored : (put : List Down) (got : ℕ) (given : List Up) (taken : ℕ) (may : Bool) (bytes released n : ℕ) →
     IsStored put got given taken may bytes released →

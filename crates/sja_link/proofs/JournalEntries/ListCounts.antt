@@ -1,13 +1,13 @@
 -- What lists of items and of lengths count up to.
 use Rattle.std.proofs.Common.{◌≡◌, ℕ, ◌+◌, ◌*◌, ◌≤◌, List, [], ◌∷◌, ◌++◌, length, refl, ap, arith}
-use Rattle.sja_link.specs.declared.down.Down.{Down}
-use Rattle.sja_link.specs.declared.down.Down.TheVariants.{Message, Off as OffDown}
-use Rattle.sja_link.specs.declared.up.Up.{Up}
-use Rattle.sja_link.specs.declared.up.Up.TheVariants.{Start as StartUp, Credit, Send as SendUp, Stop as StopUp}
+use Rattle.sja_journal.specs.declared.down.Down.{Down}
+use Rattle.sja_journal.specs.declared.down.Down.TheVariants.{Message, Off as OffDown}
+use Rattle.sja_journal.specs.declared.up.Up.{Up}
+use Rattle.sja_journal.specs.declared.up.Up.TheVariants.{Start as StartUp, Credit, Send as SendUp, Stop as StopUp}
 use Rattle.lemmas.specs.Gathering.{total}
-use Rattle.sja_link.specs.Free.{credit_of}
+use Rattle.sja_journal.specs.Free.{credit_of}
 use Rattle.sja_link.specs.World.{bytes_of, credits_of, is_off, is_start, is_send, is_stop}
-use Rattle.sja_link.specs.Lists.{messages}
+use Rattle.sja_journal.specs.Lists.{messages}
 use Rattle.sja_link.specs.Inside.Fields.{AreBig, lengths}
 
 pub messages_both : (xs ys : List Down) → messages (xs ++ ys) ≡ messages xs ++ messages ys

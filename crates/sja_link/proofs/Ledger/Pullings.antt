@@ -1,9 +1,9 @@
 -- Runs of gets.
 use Rattle.std.proofs.Common.{◌≡◌, ◌≤◌, arith, ℕ, Bool, true, false, List, [], ◌∷◌, ◌++◌, refl, sym, ap, ◌∙◌, subst}
 use Rattle.std.proofs.Common.{append_assoc, append-nil}
-use Rattle.sja_link.specs.declared.down.Down.{Down}
-use Rattle.sja_link.specs.declared.down.Down.TheVariants.{Message, Off}
-use Rattle.sja_link.specs.Lists.{Lists, messages}
+use Rattle.sja_journal.specs.declared.down.Down.{Down}
+use Rattle.sja_journal.specs.declared.down.Down.TheVariants.{Message, Off}
+use Rattle.sja_journal.specs.Lists.{Lists, messages}
 use Rattle.sja_link.specs.Looking.{with_gots, off_among, Pulls, one_if}
 use Rattle.sja_link.proofs.JournalEntries.ListCounts.{messages_both}
 

@@ -2,7 +2,7 @@
 use Rattle.std.proofs.Common.{◌≡◌, ℕ, List, [], ◌∷◌, ◌++◌, refl, ap, ◌∙◌}
 use Rattle.std.proofs.lemmas.Bool.{eq-eqb, ne_eqb}
 use Rattle.std.proofs.lemmas.List.Elements.{filter_map-append}
-use Rattle.sja_link.specs.declared.down.Down.{Down}
+use Rattle.sja_journal.specs.declared.down.Down.{Down}
 use Rattle.sja_link.specs.declared.older_down.OlderDown.{OlderDown}
 use Rattle.sja_link.specs.Deques.{left_on, on_link}
 

@@ -1,12 +1,12 @@
 -- What lies on the links of a node in one thread, call by call.
 use Rattle.std.proofs.Common.{◌≡◌, ℕ, ◌+◌, ◌<◌, ◌≤◌, List, [], ◌∷◌, ◌++◌, length, sym, ap, ◌∙◌, subst, append_assoc}
 use Rattle.std.proofs.Common.{min, inl, inr, refl, arith}
-use Rattle.std.specs.Prelude.{Option, Some, None, IfNone, ◌≢◌, ◌⊎◌}
-use Rattle.sja_link.specs.declared.down.Down.{Down}
-use Rattle.sja_link.specs.declared.up.Up.{Up}
-use Rattle.sja_link.specs.Lists.{Lists, OthersStand, Carries, Keeps, with_put, with_taken, with_got, with_given}
+use Rattle.std.specs.Prelude.{◌≢◌, ◌⊎◌}
+use Rattle.sja_journal.specs.declared.down.Down.{Down}
+use Rattle.sja_journal.specs.declared.up.Up.{Up}
+use Rattle.sja_journal.specs.Lists.{Lists, OthersStand, Carries, with_taken, with_got, with_given}
 use Rattle.sja_link.specs.Deques.{Deques, Queues, nothing_lies, AreLinks, IsAside, Lies, left_on}
-use Rattle.sja_link.specs.Deques.{queues_on, down_on, up_on, IsFullDown, IsFullUp, IsDryDown}
+use Rattle.sja_link.specs.Deques.{queues_on}
 use Rattle.sja_link.specs.Inside.Queues.{IsTurned}
 use Rattle.sja_link.proofs.QueuedLinks.Among.{among_before, among_beyond}
 use Rattle.sja_link.proofs.QueuedLinks.Hand.{hand_here, hand_else}
@@ -15,11 +15,6 @@ use Rattle.sja_link.proofs.QueuedLinks.Hand.{hand_here, hand_else}
 pub not_empty : {T : Type 0} (xs : List T) (x : T) → xs ++ x ∷ [] ≢ []
 not_empty [] x e = cc
 not_empty (y ∷ xs) x e = cc
-
--- what two clauses say where nothing came
-pub if_none : {T P Q R : Type 0} (r : Option T) → (P × Q → R) → IfNone r P × IfNone r Q → IfNone r R
-if_none None f h = f h
-if_none (Some x) f h = tt
 
 -- on a link that has no queues nothing lies
 pub aside_nothing : (s : Deques) (a : ℕ) → s.at ≢ a → IsAside s a → queues_on s a ≡ nothing_lies
@@ -123,15 +118,6 @@ module _ (s m : Deques) (a : ℕ) (now : Queues) (r : IsReady s m a) where
   was_up : (l : Lists) → Lies s a l → l.given ≡ l.taken ++ m.here.up
   was_up l h = h.up ∙ ap (λ (q : Queues). l.taken ++ q.up) was_is
 
-  pub lies_put : (x : Down) → now ≡ record (m.here) { down = m.here.down ++ x ∷ [] } →
-      Carries Lies a s t (λ l. with_put l x)
-  lies_put x is l h =
-      lies_now l (with_put l x) h
-      (ap (λ p. p ++ x ∷ []) (was_down l h) ∙ append_assoc l.got (left_on s.older a ++ m.here.down) (x ∷ [])
-      ∙ ap (λ d. l.got ++ d) (append_assoc (left_on s.older a) m.here.down (x ∷ [])
-      ∙ ap (λ (q : Queues). left_on s.older a ++ q.down) (sym is)))
-      (was_up l h ∙ ap (λ (q : Queues). l.taken ++ q.up) (sym is)) (λ some. some)
-
   pub lies_taken : (x : Up) → m.here.up ≡ x ∷ now.up → now.down ≡ m.here.down →
       Carries Lies a s t (λ l. with_taken l x)
   lies_taken x is same l h =
@@ -156,21 +142,3 @@ module _ (s m : Deques) (a : ℕ) (now : Queues) (r : IsReady s m a) where
       (was_down l h ∙ ap (λ (q : Queues). l.got ++ (left_on s.older a ++ q.down)) (sym is))
       (ap (λ g. g ++ x ∷ []) (was_up l h) ∙ append_assoc l.taken m.here.up (x ∷ [])
       ∙ ap (λ (q : Queues). l.taken ++ q.up) (sym is)) (λ some. not_empty l.given x)
-
-  -- and where nothing came of it
-  pub lies_kept : now ≡ m.here → Keeps Lies a s t
-  lies_kept same l h =
-      lies_now l l h (was_down l h ∙ ap (λ (q : Queues). l.got ++ (left_on s.older a ++ q.down)) (sym same))
-      (was_up l h ∙ ap (λ (q : Queues). l.taken ++ q.up) (sym same)) (λ some. some)
-
-  pub full_down : length m.here.down ≡ 22 → IsFullDown s a
-  full_down full = inr (ap (λ (q : Queues). length q.down) was_is ∙ full)
-
-  pub full_up : length m.here.up ≡ 24 → IsFullUp s a
-  full_up full = inl (ap (λ (q : Queues). length q.up) was_is ∙ full)
-
-  pub dry_up : now ≡ m.here → m.here.up ≡ [] → up_on t a ≡ []
-  dry_up same none = ap (λ (q : Queues). q.up) (here ∙ same) ∙ none
-
-  pub dry_down : now ≡ m.here → m.here.down ≡ [] → IsDryDown t a
-  dry_down same none = ap (λ (q : Queues). q.down) (here ∙ same) ∙ none

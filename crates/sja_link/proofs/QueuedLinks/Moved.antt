@@ -3,8 +3,8 @@ use Rattle.std.proofs.Common.{◌≡◌, ℕ, suc, ◌+◌, ◌<◌, ◌≤◌, 
 use Rattle.std.proofs.Common.{append-nil, inl, inr, arith}
 use Rattle.std.specs.Prelude.{◌≢◌, ◌⊎◌}
 use Rattle.std.proofs.lemmas.Bool.{cases_eq}
-use Rattle.sja_link.specs.declared.up.Up.{Up}
-use Rattle.sja_link.specs.Lists.{Lists, OthersStand, Carries, with_given}
+use Rattle.sja_journal.specs.declared.up.Up.{Up}
+use Rattle.sja_journal.specs.Lists.{Lists, OthersStand, Carries, with_given}
 use Rattle.sja_link.specs.Deques.{Deques, Queues, nothing_lies, AreLinks, Lies, on_link, left_on}
 use Rattle.sja_link.specs.Deques.{queues_on, down_on, up_on}
 use Rattle.sja_link.specs.Inside.Queues.{IsMoved}

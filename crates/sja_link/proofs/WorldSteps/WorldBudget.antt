@@ -3,12 +3,12 @@ use Rattle.std.proofs.Common.{◌≡◌, ℕ, ◌+◌, ◌≤◌, Bool, true, fa
 use Rattle.std.proofs.Common.{length, drop, sym, ap, ◌∙◌, subst, append_assoc, arith}
 use Rattle.std.proofs.lemmas.List.{length-map}
 use Rattle.std.proofs.Math.Seq.{drop-append_seam}
-use Rattle.sja_link.specs.declared.down.Down.{Down}
-use Rattle.sja_link.specs.declared.up.Up.{Up}
+use Rattle.sja_journal.specs.declared.down.Down.{Down}
+use Rattle.sja_journal.specs.declared.up.Up.{Up}
 use Rattle.lemmas.specs.Gathering.{total}
-use Rattle.sja_link.specs.Free.{credit_of}
+use Rattle.sja_journal.specs.Free.{credit_of}
 use Rattle.sja_link.specs.World.{WorldValue, bytes_of, credits_of, is_off, is_start, is_stop, unreleased, held, on_way}
-use Rattle.sja_link.specs.Lists.{messages}
+use Rattle.sja_journal.specs.Lists.{messages}
 use Rattle.sja_link.specs.Budget.{IsBudget}
 use Rattle.sja_link.specs.Inside.Fields.{AreBig, lengths, sends_left, IsWorld}
 use Rattle.lemmas.proofs.Gathered.{total_append}

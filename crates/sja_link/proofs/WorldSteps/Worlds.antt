@@ -3,17 +3,17 @@ use Rattle.std.proofs.Common.{◌≡◌, ℕ, ◌+◌, ◌<◌, ◌≤◌, Bool,
 use Rattle.std.proofs.Common.{take, drop, refl, sym, ap, ◌∙◌, subst, append_assoc, append-nil, arith}
 use Rattle.std.proofs.lemmas.List.{length-append}
 use Rattle.std.proofs.Math.Seq.{drop-append_seam}
-use Rattle.sja_link.specs.declared.down.Down.{Down}
-use Rattle.sja_link.specs.declared.down.Down.TheVariants.{Message, Off as OffDown}
-use Rattle.sja_link.specs.declared.up.Up.{Up}
-use Rattle.sja_link.specs.declared.up.Up.TheVariants.{Start as StartUp, Credit, Send as SendUp, Stop as StopUp}
+use Rattle.sja_journal.specs.declared.down.Down.{Down}
+use Rattle.sja_journal.specs.declared.down.Down.TheVariants.{Message, Off as OffDown}
+use Rattle.sja_journal.specs.declared.up.Up.{Up}
+use Rattle.sja_journal.specs.declared.up.Up.TheVariants.{Start as StartUp, Credit, Send as SendUp, Stop as StopUp}
 use Rattle.sja_link.specs.declared.event.Event.{Event}
 use Rattle.sja_link.specs.declared.event.Event.TheVariants.{Start, Put, Off, Get, Release, Send, SendDone, Stop, Take}
 use Rattle.lemmas.specs.Gathering.{total}
-use Rattle.sja_link.specs.Free.{credit_of}
+use Rattle.sja_journal.specs.Free.{credit_of}
 use Rattle.sja_link.specs.World.{WorldValue, new_world, bytes_of, credits_of}
 use Rattle.sja_link.specs.World.{is_off, is_start, is_send, is_stop, unreleased}
-use Rattle.sja_link.specs.Lists.{messages}
+use Rattle.sja_journal.specs.Lists.{messages}
 use Rattle.sja_link.specs.WorldEvents.{Allowed, first_credit, done, Reached}
 use Rattle.sja_link.specs.Inside.Fields.{AreBig, lengths, sends_left, IsWorld}
 use Rattle.sja_link.specs.WorldEvents.Reached.{begun, next}

@@ -1,10 +1,10 @@
 -- How a world is kept: two lists and how far each was read, with two numbers that follow from them.
 use Rattle.std.specs.Prelude.{◌≡◌, ◌≤◌, ◌+◌, ℕ, Bool, true, false, List, [], ◌∷◌, ◌++◌, length, map, take}
-use Rattle.sja_link.specs.declared.down.Down.{Down}
-use Rattle.sja_link.specs.declared.up.Up.{Up}
+use Rattle.sja_journal.specs.declared.down.Down.{Down}
+use Rattle.sja_journal.specs.declared.up.Up.{Up}
 use Rattle.lemmas.specs.Gathering.{total}
-use Rattle.sja_link.specs.Lists.{messages}
-use Rattle.sja_link.specs.Free.{credit_of}
+use Rattle.sja_journal.specs.Lists.{messages}
+use Rattle.sja_journal.specs.Free.{credit_of}
 use Rattle.sja_link.specs.World.{WorldValue, is_off, is_start, is_send, is_stop, bytes_of, credits_of, free}
 
 -- what was got is a front of what was put, and what was taken of what was given

@@ -1,7 +1,7 @@
 -- How the queues of a node's links are kept, and what was left on links that have none any more.
 use Rattle.std.specs.Prelude.{◌≡◌, ◌≢◌, ◌⊎◌, ◌<◌, ◌≤◌, ◌+◌, ◌*◌, ◌^◌, ℕ, suc, List, [], ◌++◌, length, min}
-use Rattle.sja_link.specs.declared.down.Down.{Down}
-use Rattle.sja_link.specs.declared.up.Up.{Up}
+use Rattle.sja_journal.specs.declared.down.Down.{Down}
+use Rattle.sja_journal.specs.declared.up.Up.{Up}
 use Rattle.sja_link.specs.declared.older_down.OlderDown.{OlderDown}
 use Rattle.sja_link.specs.Deques.{Deques, Queues, among, left_on, nothing_lies, on_link, queues_on}
 

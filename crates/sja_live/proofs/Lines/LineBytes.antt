@@ -8,7 +8,7 @@ use Rattle.sja_live.specs.Inside.Reading.{HasRead, IsLine, IsLineOf, IsLineReada
 use Rattle.sja_live.specs.Lines.{most_line, first_line, behind_line, HasNoFeed, IsReadable}
 use Rattle.sja_live.specs.declared.next_line.Line.{Line}
 use Rattle.sja_live.specs.declared.next_line.Line.TheVariants.{Text as LineOf, Long, NoText, Over}
-use Rattle.sja_plan.specs.Words.{Text}
+use Rattle.sja_plan_reading.specs.Words.{Text}
 
 -- ---- a line ends with a line feed or with the text
 
@@ -72,10 +72,6 @@ within_more before mid after was now count byte w t other is = record {
   is = is;
   many = let m = w.many in let n = length-append w.front (byte ∷ []) in omega (arith, m, n);
 }
-
-pub within_first : (before : Option Text) → IsWithin before before [] 0
-within_first None = record { front = []; read = tt; plain = tt; is = refl; many = refl }
-within_first (Some input) = record { front = []; read = refl; plain = tt; is = refl; many = refl }
 
 -- ---- the line
 

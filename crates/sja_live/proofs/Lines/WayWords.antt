@@ -1,11 +1,9 @@
 -- The words of a line that runs to a place.
-use Rattle.std.proofs.Common.{◌≡◌, ◌<◌, ◌≤◌, ℕ, Bool, List, [], ◌∷◌, ◌++◌, length, codes, refl, ap, subst}
-use Rattle.std.proofs.Common.{Bor, arith, inl, inr}
-use Rattle.std.specs.Prelude.{Option, Some, None, Result, Ok, Err, IfOk, IfErr}
-use Rattle.sja_live.specs.Commands.{AreCommandWords, ArePlaceWords, IsToLine}
-use Rattle.sja_live.specs.Commands.ArePlaceWords.{one, two}
+use Rattle.std.proofs.Common.{◌≡◌, ◌<◌, ◌≤◌, ℕ, Bool, List, [], ◌∷◌, ◌++◌, length, codes, refl, subst}
+use Rattle.std.proofs.Common.{Bor, arith, inr}
+use Rattle.std.specs.Prelude.{Option, Result, Ok, Err, IfOk, IfErr}
+use Rattle.sja_live.specs.Commands.{AreCommandWords, ArePlaceWords}
 use Rattle.sja_live.specs.Inside.Reading.{IsCommandRefusal, SaysWay, IsWayRefusal}
-use Rattle.sja_live.specs.Mistakes.{HasForm, NamesNode}
 use Rattle.sja_live.specs.declared.command_refusal.CommandRefusal.{CommandRefusal}
 use Rattle.sja_live.specs.declared.command_refusal.CommandRefusal.TheVariants.{Mistaken, Memory}
 use Rattle.sja_live.specs.declared.line_fault.LineFault.TheVariants.{Text as NoText, Command, Node, Number}
@@ -15,7 +13,7 @@ use Rattle.sja_live.specs.declared.live_command.LiveCommand.TheVariants.{Step, R
 use Rattle.sja_live.specs.declared.live_command.LiveCommand.TheVariants.{Answer, Bits, Plan, End, To, PlaceOf}
 use Rattle.sja_live.proofs.Lines.WordLists.{texts, text_at}
 use Rattle.sja_plan.specs.declared.place.Place.{Place}
-use Rattle.sja_plan.specs.Words.{Text}
+use Rattle.sja_plan_reading.specs.Words.{Text}
 
 -- what the words behind the node say is what the line asks for
 pub way_asked : (version : ℕ) (endless : Bool) (nodes : ℕ) (k n : Text) (names : List Text)
@@ -70,30 +68,6 @@ three_behind (a ∷ []) d many few = absurd (omega (arith, many))
 three_behind (a ∷ b ∷ []) d many few = absurd (omega (arith, many))
 three_behind (a ∷ b ∷ e ∷ []) d many few = refl
 three_behind (a ∷ b ∷ e ∷ f ∷ ws) d many few = absurd (omega (arith, few))
-
-named_words : (names rest : List Text) (place : Option Place) (k l n : Text) → ArePlaceWords names place →
-    codes "to" ∷ k ∷ rest ≡ codes "to" ∷ l ∷ (names ++ n ∷ []) → (length rest ≡ 2 → ⊥) → (length rest ≡ 3 → ⊥) → ⊥
-named_words names rest place k l n (one p) e two_no three_no =
-    two_no (let m = ap length e in omega (arith, m))
-named_words names rest place k l n (two p q) e two_no three_no =
-    three_no (let m = ap length e in omega (arith, m))
-
-pub no_form : (k : Text) (rest : List Text) → (length rest ≡ 2 → ⊥) → (length rest ≡ 3 → ⊥) →
-    ¬ HasForm (codes "to" ∷ k ∷ rest)
-no_form k rest two_no three_no (inl (l, inl (others, e))) = cc
-no_form k rest two_no three_no (inl (l, inr (inl (a, e)))) = cc
-no_form k rest two_no three_no (inl (l, inr (inr (inl (a, v, e))))) = cc
-no_form k rest two_no three_no (inl (l, inr (inr (inr (inl (b, e)))))) = cc
-no_form k rest two_no three_no (inl (l, inr (inr (inr (inr (inl e)))))) = cc
-no_form k rest two_no three_no (inl (l, inr (inr (inr (inr (inr (inl e))))))) = cc
-no_form k rest two_no three_no (inl (l, inr (inr (inr (inr (inr (inr (place, n, h)))))))) =
-    named_words h.names rest place k l n h.are h.whole two_no three_no
-no_form k rest two_no three_no (inr (inl (n, e))) = cc
-no_form k rest two_no three_no (inr (inr (inl e))) = cc
-no_form k rest two_no three_no (inr (inr (inr (inl e)))) = cc
-no_form k rest two_no three_no (inr (inr (inr (inr (inl e))))) = cc
-no_form k rest two_no three_no (inr (inr (inr (inr (inr (inl e)))))) = cc
-no_form k rest two_no three_no (inr (inr (inr (inr (inr (inr e)))))) = cc
 
 -- what holds of a value, or of an error, where another thing does
 pub ok_so : {A E : Type 0} {P Q : A → Type 0} (r : Result A E) → IfOk r P → ((x : A) → P x → Q x) → IfOk r Q

@@ -3,7 +3,7 @@ use Rattle.std.proofs.Common.{◌≡◌, ℕ, ◌-◌, ◌<◌, ◌≤◌, List,
 use Rattle.std.proofs.Common.{sym, ◌∙◌, Bor, arith}
 use Rattle.std.proofs.lemmas.List.{take_all}
 use Rattle.sja_live.specs.Opening.{IsLiveLine}
-use Rattle.sja_plan.specs.Words.{Text, words}
+use Rattle.sja_plan_reading.specs.Words.{Text, words}
 
 abbrev pub texts : List (Bor Text) → List Text
 texts ws = map (λ (w : Bor Text). w.now) ws

@@ -2,7 +2,7 @@
 use Rattle.std.proofs.Common.{◌≡◌, ℕ, List, refl, sym, ◌∙◌, subst, inl, inr, arith}
 use Rattle.std.specs.Prelude.{Option, Some, None, ◌<◌, ◌≤◌, ◌⊎◌, String, string_bytes}
 use Rattle.std.specs.Global.{Global}
-use Rattle.sja_driver.specs.Accesses.{Access, accesses_at}
+use Rattle.sja_driver.specs.StepRuns.{StepRun, step_runs_at}
 use Rattle.sja_live.specs.Answering.{Answers, strike_refusal}
 use Rattle.sja_live.specs.Answering.Answers.{line, strike, no_strike, nothing, bits, plan, no_plan, no_end}
 use Rattle.sja_live.specs.Answering.Answers.{answer as an_answer}
@@ -12,7 +12,7 @@ use Rattle.sja_live.specs.declared.live_answer.LiveAnswer.TheVariants.{Full, NoP
 use Rattle.sja_live.specs.declared.live_answer.LiveAnswer.{LiveAnswer}
 use Rattle.sja_live.specs.declared.live_command.LiveCommand.{LiveCommand}
 use Rattle.sja_live.specs.declared.live_command.LiveCommand.TheVariants.{Line, Strike, Answer, Bits, Plan}
-use Rattle.sja_live.specs.declared.shortage.Shortage.TheVariants.{Document}
+use Rattle.sja_live.specs.declared.exhausted.Exhausted.TheVariants.{Document}
 use Rattle.sja_live.proofs.Spelling.Spelled.{has_texts, live_by, spelled_strike, still_live}
 use Rattle.sja_live.proofs.Replies.Told.{stays}
 use Rattle.sja_plan.specs.Plan.{PlanValue, IsInLimits}
@@ -21,8 +21,8 @@ use Rattle.sja_plan_text.specs.HasTexts.{HasTexts}
 use Rattle.sja_plan_text.specs.Written.{IsPlanText, IsTooLong}
 use Rattle.sja_plan_text.specs.declared.plan_text_fault.PlanTextFault.{PlanTextFault}
 use Rattle.sja_plan_text.specs.declared.plan_text_fault.PlanTextFault.TheVariants.{NoMemory, TooLong}
-use Rattle.sja_script.specs.declared.step_answer.StepAnswer.{StepAnswer}
-use Rattle.sja_script.specs.declared.step_answer.StepAnswer.TheVariants.{Done}
+use Rattle.sja_steps.specs.declared.step_answer.StepAnswer.{StepAnswer}
+use Rattle.sja_steps.specs.declared.step_answer.StepAnswer.TheVariants.{Done}
 use Rattle.sja_session.specs.Answering.{last_answer}
 use Rattle.sja_session.specs.Ending.{IsNoPlan}
 use Rattle.sja_session.specs.declared.no_plan.NoPlan.{NoPlan as NoPlanFault}
@@ -35,15 +35,15 @@ use Rattle.sja_session.specs.declared.strike_fault.StrikeFault.{StrikeFault}
 -- ---- looks
 
 pub told_lines : (was now : SessionValue) (byte : ℕ) →
-    ((accesses : List (List Access)) → IsAt was accesses → AreLines was accesses byte) →
-    ((accesses : List (List Access)) → IsAt was accesses → IsStill was now accesses) →
+    ((step_runs : List (List StepRun)) → IsAt was step_runs → AreLines was step_runs byte) →
+    ((step_runs : List (List StepRun)) → IsAt was step_runs → IsStill was now step_runs) →
     IsAnswered was now Line (Lines byte)
-told_lines was now byte are still = λ accesses at.
-    let s = still accesses at.at in (accesses, line s (are accesses at.at), still_live at s)
+told_lines was now byte are still = λ step_runs at.
+    let s = still step_runs at.at in (step_runs, line s (are step_runs at.at), still_live at s)
 
 pub told_bits : (was : SessionValue) (run : ℕ) → run ≡ was.run.bits → IsAnswered was was Bits (Run run)
 told_bits was run is =
-    λ accesses at. (accesses, subst (λ n. Answers was was accesses Bits (Run n) accesses) (sym is) (bits refl), at)
+    λ step_runs at. (step_runs, subst (λ n. Answers was was step_runs Bits (Run n) step_runs) (sym is) (bits refl), at)
 
 -- ---- a session that is live stays so
 
@@ -54,18 +54,18 @@ live_after was now command told live answered = let a = answered live.0 live.1 i
 -- ---- strikes
 
 -- a strike leaves how many bits there are
-struck_end : (was now : SessionValue) (node place : ℕ) (accesses : List (List Access)) →
-    IsStruck was now node place accesses → HasEnd now → HasEnd was
-struck_end was now node place accesses s end = subst HasEnd s.is end
+struck_end : (was now : SessionValue) (node place : ℕ) (step_runs : List (List StepRun)) →
+    IsStruck was now node place step_runs → HasEnd now → HasEnd was
+struck_end was now node place step_runs s end = subst HasEnd s.is end
 
 pub told_strike : (was now : SessionValue) (node place : ℕ) → MayStrike was node place →
-    ((accesses : List (List Access)) → IsAt was accesses → IsStruck was now node place accesses) → node < 256 →
+    ((step_runs : List (List StepRun)) → IsAt was step_runs → IsStruck was now node place step_runs) → node < 256 →
     IsAnswered was now (Strike node place) (Told Done)
-told_strike was now node place may h k = λ accesses at. let s = h accesses at.at in (
-  accesses,
+told_strike was now node place may h k = λ step_runs at. let s = h step_runs at.at in (
+  step_runs,
   strike may s,
   live_by s.at (λ end. s.wrote) (λ end.
-      let had = struck_end was now node place accesses s end in let within = may.within in
+      let had = struck_end was now node place step_runs s end in let within = may.within in
       let all = bits_most was.plan.version in
       spelled_strike (written was) node place (at.spelled had) (omega (arith, k)) (omega (arith, had, within, all))),
 )
@@ -74,21 +74,21 @@ pub not_strike : (was now : SessionValue) (node place : ℕ) (fault : StrikeFaul
     (answer : LiveAnswer) → IsStrikeFault was node place fault → told ≡ strike_refusal fault → told ≡ Some answer →
     now ≡ was → IsAnswered was now (Strike node place) answer
 not_strike was now node place fault told answer f is some e =
-    λ accesses at. (accesses, no_strike fault f (sym is ∙ some) e, stays was now accesses e at)
+    λ step_runs at. (step_runs, no_strike fault f (sym is ∙ some) e, stays was now step_runs e at)
 
 -- ---- questions
 
 pub told_answer : (was : SessionValue) (node : ℕ) (told : Option StepAnswer) (answer : StepAnswer) →
-    ((accesses : List (List Access)) → IsAt was accesses → told ≡ last_answer (accesses_at accesses node)) →
+    ((step_runs : List (List StepRun)) → IsAt was step_runs → told ≡ last_answer (step_runs_at step_runs node)) →
     told ≡ Some answer → IsAnswered was was (Answer node) (Told answer)
 told_answer was node told answer h some =
-    λ accesses at. (accesses, an_answer (sym (h accesses at.at) ∙ some) refl, at)
+    λ step_runs at. (step_runs, an_answer (sym (h step_runs at.at) ∙ some) refl, at)
 
 pub told_nothing : (was : SessionValue) (node : ℕ) (told : Option StepAnswer) →
-    ((accesses : List (List Access)) → IsAt was accesses → told ≡ last_answer (accesses_at accesses node)) →
+    ((step_runs : List (List StepRun)) → IsAt was step_runs → told ≡ last_answer (step_runs_at step_runs node)) →
     told ≡ None → IsAnswered was was (Answer node) Nothing
 told_nothing was node told h no_answer =
-    λ accesses at. (accesses, nothing (sym (h accesses at.at) ∙ no_answer) refl, at)
+    λ step_runs at. (step_runs, nothing (sym (h step_runs at.at) ∙ no_answer) refl, at)
 
 -- the plan so far has texts
 pub spelled_plan : (was : SessionValue) (p : PlanValue) → p ≡ written was → IsInLimits p → IsLive was → HasTexts p
@@ -98,14 +98,14 @@ spelled_plan was p is limits live =
 pub told_plan : (was : SessionValue) (p : PlanValue) (document : String Global) → HasEnd was → p ≡ written was →
     IsPlanText p (string_bytes document) → IsAnswered was was Plan (PlanSoFar document)
 told_plan was p document end is text =
-    λ accesses at. (accesses, plan end (subst (λ q. IsPlanText q (string_bytes document)) is text) refl, at)
+    λ step_runs at. (step_runs, plan end (subst (λ q. IsPlanText q (string_bytes document)) is text) refl, at)
 
 pub not_plan : (was : SessionValue) (p : PlanValue) (e : PlanTextFault) → HasEnd was → p ≡ written was →
     (e ≡ NoMemory) ⊎ ((e ≡ TooLong) × IsTooLong p) → e ≡ TooLong → IsAnswered was was Plan (Full Document)
 not_plan was p e end is (inl other) long = absurd cc
-not_plan was p e end is (inr both) long = λ accesses at. (accesses, no_plan end (subst IsTooLong is both.1) refl, at)
+not_plan was p e end is (inr both) long = λ step_runs at. (step_runs, no_plan end (subst IsTooLong is both.1) refl, at)
 
 pub told_no_end : (was : SessionValue) (fault : NoPlanFault) → IsNoPlan was fault → fault ≡ Endless →
     IsAnswered was was Plan NoPlan
 told_no_end was fault endless is =
-    λ accesses at. (accesses, no_end (subst (λ f. IsNoPlan was f) is endless) refl, at)
+    λ step_runs at. (step_runs, no_end (subst (λ f. IsNoPlan was f) is endless) refl, at)

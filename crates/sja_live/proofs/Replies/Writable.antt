@@ -6,14 +6,14 @@ use Rattle.sja_live.specs.Inside.Standing.{IsWritable}
 use Rattle.sja_live.specs.declared.live_command.LiveCommand.{LiveCommand}
 use Rattle.sja_live.specs.declared.live_command.LiveCommand.TheVariants.{Step, Read, Write, Run, Rest, Line, Strike}
 use Rattle.sja_live.specs.declared.live_command.LiveCommand.TheVariants.{Answer, Bits, Plan, End, To, PlaceOf}
-use Rattle.sja_plan.specs.StepTexts.{AreStepWords}
-use Rattle.sja_plan.proofs.OneReading.OneMessage.{is_message}
-use Rattle.sja_plan.specs.Words.{Text}
+use Rattle.sja_plan_reading.specs.StepTexts.{AreStepWords}
+use Rattle.sja_plan_reading.proofs.OneReading.OneMessage.{is_message}
+use Rattle.sja_plan_reading.specs.Words.{Text}
 use Rattle.sja_plan_text.specs.HasTexts.{HasStepText}
-use Rattle.sja_script.specs.declared.step.Step.{Step as StepOf}
-use Rattle.sja_script.specs.declared.step.Step.TheVariants.{Start, Stop, Window, Release, Read as ReadAt}
-use Rattle.sja_script.specs.declared.step.Step.TheVariants.{Write as WriteAt, Load, Command, Await}
-use Rattle.sja_script.specs.declared.step.Step.TheVariants.{Sent, Interrupt, At}
+use Rattle.sja_steps.specs.declared.step.Step.{Step as StepOf}
+use Rattle.sja_steps.specs.declared.step.Step.TheVariants.{Start, Stop, Window, Release, Read as ReadAt}
+use Rattle.sja_steps.specs.declared.step.Step.TheVariants.{Write as WriteAt, Load, Command, Await}
+use Rattle.sja_steps.specs.declared.step.Step.TheVariants.{Sent, Interrupt, At}
 
 -- a step that words spell has a text
 spelled_step : (version : ℕ) (ws : List Text) (one : StepOf) → AreStepWords version ws one → HasStepText version one

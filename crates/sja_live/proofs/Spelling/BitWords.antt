@@ -5,8 +5,8 @@ use Rattle.std.proofs.lemmas.Str.Parse.{parse_plain, digits_value_short}
 use Rattle.std.specs.Result.{OkIff, result_ok}
 use Rattle.std.specs.Str.{all_ascii_digits}
 use Rattle.std.specs.Str.Parse.{digits_value, ParsesUnsigned}
-use Rattle.sja_plan.proofs.Spelling.Numbers.{own}
-use Rattle.sja_plan.specs.Words.{Text}
+use Rattle.sja_plan_reading.proofs.Spelling.Numbers.{own}
+use Rattle.sja_plan_reading.specs.Words.{Text}
 use Rattle.sja_live.specs.Commands.{most_digits, SpellsBit}
 
 -- a short word with no plus in front parses as the bit that it spells, if any

@@ -3,7 +3,7 @@ use Rattle.std.proofs.Common.{◌≡◌, ℕ, zero, suc, ◌≤◌, List, [], �
 use Rattle.std.specs.Prelude.{Option, Some, None, Bool, slice_index_or}
 use Rattle.std.proofs.lemmas.List.{reverse-reverse}
 use Rattle.std.proofs.lemmas.List.Elements.{All-nil, All-head, All-tail, All-push, All-set}
-use Rattle.sja_driver.specs.Accesses.{Access, accesses_at}
+use Rattle.sja_driver.specs.StepRuns.{StepRun, step_runs_at}
 use Rattle.sja_live.specs.Answering.{all_watched}
 use Rattle.sja_live.specs.Inside.Standing.{HasBits, IsSpelled, IsLiveAt}
 use Rattle.sja_live.proofs.Spelling.TurnTexts.{all_reversed, turn_more, took_texts}
@@ -11,10 +11,10 @@ use Rattle.sja_plan.proofs.PlanLimits.ByVersion.{bits_most, steps_most}
 use Rattle.sja_plan.specs.Limits.{most_bits, most_steps}
 use Rattle.sja_plan.specs.Plan.{PlanValue, IsInLimits, NamesNode, steps_at}
 use Rattle.sja_plan.specs.Struck.{one_strike, struck_at}
-use Rattle.sja_plan.specs.Words.{greatest}
+use Rattle.sja_plan_reading.specs.Words.{greatest}
 use Rattle.sja_plan.specs.declared.turn.Turn.TheVariants.{Bus, Node}
 use Rattle.sja_plan_text.specs.HasTexts.{HasStepText, HasTurnText, HasStrikeText, HasTexts}
-use Rattle.sja_script.specs.declared.step.Step.{Step}
+use Rattle.sja_steps.specs.declared.step.Step.{Step}
 use Rattle.sja_session.proofs.WrittenPlan.OneMore.{steps_many}
 use Rattle.sja_session.proofs.WrittenPlan.Within.{bits_few}
 use Rattle.sja_session.specs.Lines.{IsStill}
@@ -33,16 +33,16 @@ all_at P [] empty all k = empty
 all_at P (l ∷ lists) empty all zero = All-head P l lists all
 all_at P (l ∷ lists) empty all (suc k) = all_at P lists empty (All-tail P l lists all) k
 
-pub has_texts : (s : SessionValue) (accesses : List (List Access)) → IsLiveAt s accesses → IsInLimits (written s) →
+pub has_texts : (s : SessionValue) (step_runs : List (List StepRun)) → IsLiveAt s step_runs → IsInLimits (written s) →
     HasTexts (written s)
-has_texts s accesses h limits =
+has_texts s step_runs h limits =
     let end : HasEnd s = limits.bits.1 in let spelled = h.spelled end in let most = most_steps s.plan.version in
-    let each : (k : ℕ) → length (accesses_at accesses k) ≤ greatest = λ k.
+    let each : (k : ℕ) → length (step_runs_at step_runs k) ≤ greatest = λ k.
     let few = all_at (λ (l : List Step). length l ≤ most) s.steps (omega arith) limits.steps k in
-    let same = steps_many s.steps accesses k h.at.steps in let all = steps_most s.plan.version in
+    let same = steps_many s.steps step_runs k h.at.steps in let all = steps_most s.plan.version in
     omega (arith, few, same, all) in
     let bits : s.run.bits ≤ greatest =
-    (let few = bits_few s accesses h.at in let own = limits.bits.1 in let all = bits_most s.plan.version in
+    (let few = bits_few s step_runs h.at in let own = limits.bits.1 in let all = bits_most s.plan.version in
     omega (arith, few, own, all)) in
     record {
       step_counts = limits.steps;
@@ -84,7 +84,7 @@ spelled_strike p node place h k b = record {
 
 -- ---- where a session stands then
 
-pub live_by : {now : SessionValue} {p : PlanValue} {after : List (List Access)} → IsAt now after →
+pub live_by : {now : SessionValue} {p : PlanValue} {after : List (List StepRun)} → IsAt now after →
     (HasEnd now → written now ≡ p) → (HasEnd now → IsSpelled p) → IsLiveAt now after
 live_by at wrote h = record { at = at; spelled = λ end. subst IsSpelled (sym (wrote end)) (h end) }
 
@@ -93,22 +93,22 @@ pub had_end : {now was : PlanValue} → now ≡ was → now.bits ≤ most_bits n
 had_end same end = subst (λ (p : PlanValue). p.bits ≤ most_bits p.version) same end
 
 -- one that looked
-pub still_live : {was now : SessionValue} {accesses : List (List Access)} → IsLiveAt was accesses →
-    IsStill was now accesses → IsLiveAt now accesses
+pub still_live : {was now : SessionValue} {step_runs : List (List StepRun)} → IsLiveAt was step_runs →
+    IsStill was now step_runs → IsLiveAt now step_runs
 still_live h s = live_by s.at (λ end. s.wrote) (λ end. h.spelled (had_end s.wrote end))
 
 -- one that ran a bit, and one that ran bits in which no line rose
-bit_live : {before after now : SessionValue} {accesses : List (List Access)} → IsLiveAt before accesses →
-    RunsBits before after 1 1 accesses → IsStill after now accesses → IsLiveAt now accesses
+bit_live : {before after now : SessionValue} {step_runs : List (List StepRun)} → IsLiveAt before step_runs →
+    RunsBits before after 1 1 step_runs → IsStill after now step_runs → IsLiveAt now step_runs
 bit_live {before} h r s = still_live (live_by r.at (λ end. r.wrote (had_end r.plan end))
     (λ end. spelled_bits (written before) 1 (h.spelled (had_end r.plan end)))) s
 
-quiet_live : {watched : List Bool} {nodes : ℕ} {accesses : List (List Access)} {was now : SessionValue} {n : ℕ} →
-    IsLiveAt was accesses → NoneRose watched nodes accesses was now n → IsLiveAt now accesses
+quiet_live : {watched : List Bool} {nodes : ℕ} {step_runs : List (List StepRun)} {was now : SessionValue} {n : ℕ} →
+    IsLiveAt was step_runs → NoneRose watched nodes step_runs was now n → IsLiveAt now step_runs
 quiet_live h (none s) = still_live h s
 quiet_live h (bit q r f s) = bit_live (quiet_live h q) r s
 
-pub watched_live : (was now : SessionValue) (count run : ℕ) (rose : Option ℕ) (accesses : List (List Access)) →
-    IsLiveAt was accesses → Watches was now count all_watched run rose accesses → IsLiveAt now accesses
-watched_live was now count run (Some node) accesses h w = bit_live (quiet_live h w.0.earlier) w.0.bit w.0.still
-watched_live was now count run None accesses h w = quiet_live h w.0
+pub watched_live : (was now : SessionValue) (count run : ℕ) (rose : Option ℕ) (step_runs : List (List StepRun)) →
+    IsLiveAt was step_runs → Watches was now count all_watched run rose step_runs → IsLiveAt now step_runs
+watched_live was now count run (Some node) step_runs h w = bit_live (quiet_live h w.0.earlier) w.0.bit w.0.still
+watched_live was now count run None step_runs h w = quiet_live h w.0

@@ -3,11 +3,11 @@ use Rattle.std.proofs.Common.{ℕ, ◌≤◌, Bool, true, false, List, [], ◌�
 use Rattle.std.specs.Prelude.{if◌then◌else◌}
 use Rattle.std.proofs.lemmas.List.{reverse-append}
 use Rattle.std.proofs.lemmas.List.Elements.{All-nil, All-cons, All-head, All-tail, All-push}
-use Rattle.sja_driver.specs.Accesses.{Access, accesses_at}
+use Rattle.sja_driver.specs.StepRuns.{StepRun, step_runs_at}
 use Rattle.sja_live.specs.Inside.Standing.{HasBits}
-use Rattle.sja_log.specs.Turns.{Progress}
+use Rattle.sja_promises.specs.Turns.{Progress}
 use Rattle.sja_plan.specs.Plan.{NamesNode}
-use Rattle.sja_plan.specs.Words.{greatest}
+use Rattle.sja_plan_reading.specs.Words.{greatest}
 use Rattle.sja_plan.specs.declared.turn.Turn.{Turn}
 use Rattle.sja_plan.specs.declared.turn.Turn.TheVariants.{Bus, Rest, Node, All as AllSteps, Irq, Go}
 use Rattle.sja_plan_text.specs.HasTexts.{HasTurnText}
@@ -48,8 +48,8 @@ turn_more turns t h all =
 -- ---- how large they are
 
 -- turns have texts that led to where seven digits spell the bits and the steps
-pub took_texts : {accesses : List (List Access)} {first p : Progress} {turns : List Turn} (version nodes : ℕ) →
-    Took accesses first turns p → p.bits ≤ greatest → ((k : ℕ) → length (accesses_at accesses k) ≤ greatest) →
+pub took_texts : {step_runs : List (List StepRun)} {first p : Progress} {turns : List Turn} (version nodes : ℕ) →
+    Took step_runs first turns p → p.bits ≤ greatest → ((k : ℕ) → length (step_runs_at step_runs k) ≤ greatest) →
     nodes ≤ 8 → All HasBits turns → All (NamesNode nodes) turns →
     All (HasTurnText version) turns
 took_texts version nodes none few each eight some named = All-nil (HasTurnText version)

@@ -3,7 +3,7 @@ use Rattle.std.proofs.Common.{ℕ, ◌+◌, ◌*◌, ◌<◌, Bool, true, false,
 use Rattle.std.specs.Prelude.{if◌then◌else◌, ◌==◌, ◌||◌}
 use Rattle.std.proofs.lemmas.List.Elements.{All-nil, All-cons, All-append}
 use Rattle.sja_plan_text.specs.HasTexts.{HasStepText}
-use Rattle.sja_driver.specs.CommandWrites.{command_byte, command_steps, commands, doable, releases}
+use Rattle.sja_driver.specs.CommandWrites.{command_byte, command_steps, commands, permitted_part, releases}
 use Rattle.sja_driver.specs.ModeWrites.{closing, leaving, mode_steps, reset_byte, taking}
 use Rattle.sja_driver.specs.Writes.{write_steps}
 use Rattle.sja_regs.specs.Bits.{byte}
@@ -14,8 +14,8 @@ use Rattle.sja_regs.specs.Writing.{is_other_mode}
 use Rattle.sja_regs.specs.declared.command.Command.{Command as CommandBits}
 use Rattle.sja_regs.specs.declared.mode.Mode.{Mode}
 use Rattle.sja_regs.specs.declared.registers.Registers.{Registers}
-use Rattle.sja_script.specs.declared.step.Step.{Step}
-use Rattle.sja_script.specs.declared.step.Step.TheVariants.{Start, Stop, Release, Write, Command}
+use Rattle.sja_steps.specs.declared.step.Step.{Step}
+use Rattle.sja_steps.specs.declared.step.Step.TheVariants.{Start, Stop, Release, Write, Command}
 use Rattle.sja_session.specs.ByAddress.{steps_by}
 
 -- ---- bytes
@@ -84,18 +84,18 @@ module _ (version : ℕ) where
   command_texts : (p : Registers) (c : CommandBits) → Texts (command_steps p c)
   command_texts p c = by p.mode.rm
     where
-      some : (b : Bool) → Texts (if b then [] else Command (command_byte (doable p c)) ∷ [])
+      some : (b : Bool) → Texts (if b then [] else Command (command_byte (permitted_part p c)) ∷ [])
       some true = no_text
-      some false = one_text (Command (command_byte (doable p c))) (command_few (doable p c))
+      some false = one_text (Command (command_byte (permitted_part p c))) (command_few (permitted_part p c))
 
       released : (b : Bool) → Texts (releases b)
       released true = one_text Release tt
       released false = no_text
 
-      by : (b : Bool) → Texts (if b then [] else commands (command_byte (doable p c)) ++ releases c.rrb)
+      by : (b : Bool) → Texts (if b then [] else commands (command_byte (permitted_part p c)) ++ releases c.rrb)
       by true = no_text
-      by false = joined (commands (command_byte (doable p c))) (releases c.rrb)
-          (some (command_byte (doable p c) == 0)) (released c.rrb)
+      by false = joined (commands (command_byte (permitted_part p c))) (releases c.rrb)
+          (some (command_byte (permitted_part p c) == 0)) (released c.rrb)
 
   typed_texts : (p : Registers) (out : Bool) (address value : ℕ) → address < 256 → value < 256 →
       Texts (write_steps p out address value)

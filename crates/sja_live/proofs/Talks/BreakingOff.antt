@@ -5,19 +5,19 @@ use Rattle.std.specs.Global.{Global}
 use Rattle.std.specs.Io.KnownBytes.{Keeps}
 use Rattle.std.proofs.KnownBytes.{Keeps-refl}
 use Rattle.std.proofs.lemmas.List.{append-nil}
-use Rattle.sja_driver.specs.Accesses.{Access}
+use Rattle.sja_driver.specs.StepRuns.{StepRun}
 use Rattle.sja_session.specs.Sessions.{SessionValue}
 use Rattle.sja_live.specs.Inside.Standing.{IsLiveAt}
-use Rattle.sja_live.specs.Inside.Going.{FirstSays, Goes, IsNext, IsNextAnswer}
+use Rattle.sja_live.specs.Inside.LiveProgress.{FirstSays, Goes, IsNext, IsNextAnswer}
 use Rattle.sja_live.specs.Inside.Reading.{HasRead, IsWithin, LeavesLine, TakesLine}
 use Rattle.sja_live.specs.Lines.{behind_line, HasNoFeed}
 use Rattle.sja_live.specs.Talking.{IsBrokenOff, Speaks}
 use Rattle.sja_live.specs.declared.live_answer.LiveAnswer.{LiveAnswer}
 use Rattle.sja_live.specs.declared.next_line.Line.TheVariants.{Text as LineOf}
 use Rattle.sja_live.specs.declared.opening.Opening.{Opening}
-use Rattle.sja_live.specs.declared.talk_fault.TalkFault.{TalkFault}
-use Rattle.sja_live.specs.declared.talk_fault.TalkFault.TheVariants.{Memory, Read}
-use Rattle.sja_plan.specs.Words.{Text}
+use Rattle.sja_live.specs.declared.live_session_fault.LiveSessionFault.{LiveSessionFault}
+use Rattle.sja_live.specs.declared.live_session_fault.LiveSessionFault.TheVariants.{Memory, Read}
+use Rattle.sja_plan_reading.specs.Words.{Text}
 
 -- ---- a line
 
@@ -30,7 +30,7 @@ begun_by (Some input) (Some rest) (Some left) front plain read kept =
     (front, plain, read ∙ ap (λ l. front ++ l) (sym kept))
 
 -- a read failed behind some bytes of a line
-pub line_begun : (before mid after : Option Text) (kept : Text) (count : ℕ) (fault : TalkFault) →
+pub line_begun : (before mid after : Option Text) (kept : Text) (count : ℕ) (fault : LiveSessionFault) →
     IsWithin before mid kept count → fault ≡ Read → Keeps mid after → LeavesLine before after fault
 line_begun before mid after kept count fault w read same =
     subst (LeavesLine before after) (sym read) (begun_by before mid after w.front w.plain w.read same)
@@ -42,7 +42,7 @@ line_stopped before after kept count w =
     begun_by before after after w.front w.plain w.read (Keeps-refl after)
 
 -- memory was refused, and nothing was read
-pub line_unread : (before : Option Text) (fault : TalkFault) → fault ≡ Memory → LeavesLine before before fault
+pub line_unread : (before : Option Text) (fault : LiveSessionFault) → fault ≡ Memory → LeavesLine before before fault
 line_unread before fault memory = subst (LeavesLine before before) (sym memory) (by before)
   where
     by : (before : Option Text) → LeavesLine before before Memory
@@ -50,7 +50,7 @@ line_unread before fault memory = subst (LeavesLine before before) (sym memory) 
     by (Some input) = inl ([], tt, refl)
 
 -- memory was refused for the answer of a line
-pub line_taken : (before after : Option Text) (line : String Global) (fault : TalkFault) →
+pub line_taken : (before after : Option Text) (line : String Global) (fault : LiveSessionFault) →
     TakesLine before after (LineOf line) → fault ≡ Memory → LeavesLine before after fault
 line_taken before after line fault takes memory = subst (LeavesLine before after) (sym memory) (by before after takes)
   where
@@ -63,7 +63,8 @@ pub ruleset lines_left = (line_begun, line_stopped, line_unread)
 
 -- ---- before there is a session
 
-pub talk_silent : (input left old new : Option Text) (fault : TalkFault) → LeavesLine input left fault → new ≡ old →
+pub talk_silent : (input left old new : Option Text) (fault : LiveSessionFault) → LeavesLine input left fault →
+    new ≡ old →
     Speaks input left old new (IsBrokenOff fault)
 talk_silent None left old new fault leaves same = tt
 talk_silent (Some input) left None new fault leaves same = tt
@@ -88,7 +89,7 @@ pub ruleset unopened = (talk_silent, talk_unopened)
 -- ---- a session that was opened
 
 -- the next line wasn't read, or not answered
-pub talk_breaks : (input rest left old new : Option Text) (s : SessionValue) (fault : TalkFault) →
+pub talk_breaks : (input rest left old new : Option Text) (s : SessionValue) (fault : LiveSessionFault) →
     Goes input rest old new s → LeavesLine rest left fault → Speaks input left old new (IsBrokenOff fault)
 talk_breaks None rest left old new s fault g leaves = tt
 talk_breaks (Some input) rest left None new s fault g leaves = tt
@@ -107,22 +108,22 @@ talk_stops input rest old new s g = talk_breaks input rest rest old new s Read g
     by None = tt
     by (Some rest) = ([], tt, refl)
 
-behind_next : (rest left : Text) (was now : SessionValue) (accesses : List (List Access)) (next : Option LiveAnswer) →
-    IsNext rest left was now accesses next → left ≡ behind_line rest
-behind_next rest left was now accesses (Some answer) n = n.2
-behind_next rest left was now accesses None n = n.2
+behind_next : (rest left : Text) (was now : SessionValue) (step_runs : List (List StepRun)) (next : Option LiveAnswer) →
+    IsNext rest left was now step_runs next → left ≡ behind_line rest
+behind_next rest left was now step_runs (Some answer) n = n.2
+behind_next rest left was now step_runs None n = n.2
 
 -- memory was refused for the text of an answer, or for the report
 pub talk_unanswered : (input rest left old mid new : Option Text) (was now : SessionValue) (next : Option LiveAnswer)
-    (fault : TalkFault) → Goes input rest old mid was →
-    ((accesses : List (List Access)) → IsLiveAt was accesses → IsNextAnswer rest left was now accesses next) →
+    (fault : LiveSessionFault) → Goes input rest old mid was →
+    ((step_runs : List (List StepRun)) → IsLiveAt was step_runs → IsNextAnswer rest left was now step_runs next) →
     fault ≡ Memory → new ≡ mid → Speaks input left old new (IsBrokenOff fault)
 talk_unanswered input rest left old mid new was now next fault g answers memory same =
     subst (λ f. Speaks input left old new (IsBrokenOff f)) (sym memory)
     (subst (λ n. Speaks input left old n (IsBrokenOff Memory)) (sym same) (by input rest left old mid g answers))
   where
     by : (input rest left old mid : Option Text) → Goes input rest old mid was →
-        ((accesses : List (List Access)) → IsLiveAt was accesses → IsNextAnswer rest left was now accesses next) →
+        ((step_runs : List (List StepRun)) → IsLiveAt was step_runs → IsNextAnswer rest left was now step_runs next) →
         Speaks input left old mid (IsBrokenOff Memory)
     by None rest left old mid g answers = tt
     by (Some input) rest left None mid g answers = tt

@@ -3,14 +3,14 @@
 use Rattle.std.proofs.Common.{◌≡◌, ◌≤◌, ◌<◌, ◌^◌, ◌&&◌, ℕ, Bool, true, false, List, refl, sym, ap, ◌∙◌, subst, arith}
 use Rattle.std.specs.Prelude.{◌==◌, Option, Some, None, nat_lt, replicate, if◌then◌else◌}
 use Rattle.std.proofs.lemmas.Bool.{le-ltb, lt-ltb}
-use Rattle.sja_driver.specs.Accesses.{Access}
+use Rattle.sja_driver.specs.StepRuns.{StepRun}
 use Rattle.sja_plan.specs.Limits.{most_bits}
 use Rattle.sja_plan.specs.Plan.{PlanValue}
-use Rattle.sja_plan.specs.Words.{Text}
+use Rattle.sja_plan_reading.specs.Words.{Text}
 use Rattle.sja_plan.proofs.PlanLimits.ByVersion.{bits_most}
 use Rattle.sja_regs.specs.Registers.{at_power_on}
-use Rattle.sja_script.specs.declared.step.Step.{Step}
-use Rattle.sja_script.specs.declared.step_answer.StepAnswer.{StepAnswer}
+use Rattle.sja_steps.specs.declared.step.Step.{Step}
+use Rattle.sja_steps.specs.declared.step_answer.StepAnswer.{StepAnswer}
 use Rattle.sja_session.specs.Beginning.{endless_bits}
 use Rattle.sja_session.specs.ByAddress.{DoesSteps}
 use Rattle.sja_session.specs.ByAddress.DoesSteps.{none as no_steps, more as one_more}
@@ -59,28 +59,28 @@ then_as_long first second =
 
 -- ---- of what a line asks for
 
-by_steps : {node : ℕ} {was now : SessionValue} {accesses after : List (List Access)} {steps : List Step}
-    {answers : List StepAnswer} → DoesSteps node was accesses steps answers now after → IsAsLong was now
+by_steps : {node : ℕ} {was now : SessionValue} {step_runs after : List (List StepRun)} {steps : List Step}
+    {answers : List StepAnswer} → DoesSteps node was step_runs steps answers now after → IsAsLong was now
 by_steps no_steps = by_itself refl
 by_steps (one_more does rest) = then_as_long (by_plan does.plan) (by_steps rest)
 
-by_bits : {watched : List Bool} {nodes : ℕ} {accesses : List (List Access)} {was now : SessionValue} {n : ℕ} →
-    NoneRose watched nodes accesses was now n → IsAsLong was now
+by_bits : {watched : List Bool} {nodes : ℕ} {step_runs : List (List StepRun)} {was now : SessionValue} {n : ℕ} →
+    NoneRose watched nodes step_runs was now n → IsAsLong was now
 by_bits (no_bit still) = by_written still.wrote
 by_bits (one_bit {was} {before} {after} {now} {n} earlier runs quiet still) =
     let bit : IsAsLong before after = by_plan runs.plan in let end : IsAsLong after now = by_written still.wrote in
     then_as_long (by_bits earlier) (then_as_long bit end)
 
-by_watch : (was now : SessionValue) (count run : ℕ) (told : Option ℕ) (accesses : List (List Access)) →
-    Watches was now count all_watched run told accesses → IsAsLong was now
-by_watch was now count run None accesses w = by_bits w.0
-by_watch was now count run (Some node) accesses w =
+by_watch : (was now : SessionValue) (count run : ℕ) (told : Option ℕ) (step_runs : List (List StepRun)) →
+    Watches was now count all_watched run told step_runs → IsAsLong was now
+by_watch was now count run None step_runs w = by_bits w.0
+by_watch was now count run (Some node) step_runs w =
     let last = w.0 in let bit : IsAsLong last.before last.after = by_plan last.bit.plan in
     let end : IsAsLong last.after now = by_written last.still.wrote in
     then_as_long (by_bits last.earlier) (then_as_long bit end)
 
-by_answer : {was now : SessionValue} {accesses after : List (List Access)} {command : LiveCommand}
-    {told : LiveAnswer} → Answers was now accesses command told after → IsAsLong was now
+by_answer : {was now : SessionValue} {step_runs after : List (List StepRun)} {command : LiveCommand}
+    {told : LiveAnswer} → Answers was now step_runs command told after → IsAsLong was now
 by_answer (step may does) = by_plan does.plan
 by_answer (waits may has) = by_plan has.plan
 by_answer (no_step fault why same) = by_itself same
@@ -88,11 +88,11 @@ by_answer (read may reads) = by_plan reads.does.plan
 by_answer (no_read fault why same) = by_itself same
 by_answer (write may writes) = by_steps (writes.does (at_power_on 1))
 by_answer (no_write fault why same) = by_itself same
-by_answer {was} {now} {accesses} (rose {count} {run} {lines} mid node may w still are) =
+by_answer {was} {now} {step_runs} (rose {count} {run} {lines} mid node may w still are) =
     let end : IsAsLong mid now = by_written still.wrote in
-    then_as_long (by_watch was mid count run (Some node) accesses w) end
-by_answer {was} {now} {accesses} (ran {count} may w) = by_watch was now count count None accesses w
-by_answer {was} {now} {accesses} (spent {count} {run} may w less) = by_watch was now count run None accesses w
+    then_as_long (by_watch was mid count run (Some node) step_runs w) end
+by_answer {was} {now} {step_runs} (ran {count} may w) = by_watch was now count count None step_runs w
+by_answer {was} {now} {step_runs} (spent {count} {run} may w less) = by_watch was now count run None step_runs w
 by_answer (no_turn lacks same) = by_itself same
 by_answer (rested may rests) = by_plan rests.plan
 by_answer (restless may rests) = by_plan rests.plan
@@ -113,8 +113,8 @@ by_answer (plan end text same) = by_itself same
 by_answer (no_plan end text same) = by_itself same
 by_answer (no_end endless same) = by_itself same
 
-by_reply : {was now : SessionValue} {accesses after : List (List Access)} {said : Text} {told : LiveAnswer} →
-    Replies was now accesses said told after → IsAsLong was now
+by_reply : {was now : SessionValue} {step_runs after : List (List StepRun)} {said : Text} {told : LiveAnswer} →
+    Replies was now step_runs said told after → IsAsLong was now
 by_reply (done readable asks answers) = by_answer answers
 by_reply (mistaken readable wrong same) = by_itself same
 by_reply (no_text short other same) = by_itself same
@@ -123,9 +123,9 @@ by_reply (long more same) = by_itself same
 -- ---- whether it has an end
 
 -- a reply changes that not
-pub same_end : (was now : SessionValue) (accesses after : List (List Access)) (said : Text) (told : LiveAnswer) →
-    Replies was now accesses said told after → lacks_end now.plan ≡ lacks_end was.plan
-same_end was now accesses after said told replies =
+pub same_end : (was now : SessionValue) (step_runs after : List (List StepRun)) (said : Text) (told : LiveAnswer) →
+    Replies was now step_runs said told after → lacks_end now.plan ≡ lacks_end was.plan
+same_end was now step_runs after said told replies =
     let same = by_reply replies in λ i. nat_lt (most_bits (same.version i)) (same.bits i)
 
 -- as it begins it has one, or none, as its first line asked

@@ -7,7 +7,7 @@ use Rattle.sja_live.specs.Opening.{IsOpeningFault}
 use Rattle.sja_live.specs.Talking.{IsLeftUnanswered}
 use Rattle.sja_live.specs.declared.next_line.Line.{Line}
 use Rattle.sja_live.specs.declared.next_line.Line.TheVariants.{Text as LineOf, Long, NoText, Over}
-use Rattle.sja_live.specs.declared.talk_fault.TalkFault.{TalkFault}
+use Rattle.sja_live.specs.declared.live_session_fault.LiveSessionFault.{LiveSessionFault}
 use Rattle.sja_live.specs.declared.command_refusal.CommandRefusal.{CommandRefusal}
 use Rattle.sja_live.specs.declared.command_refusal.CommandRefusal.TheVariants.{Mistaken, Memory}
 use Rattle.sja_live.specs.declared.opening_refusal.OpeningRefusal.{OpeningRefusal}
@@ -17,7 +17,7 @@ use Rattle.sja_live.specs.declared.line_fault.LineFault.TheVariants.{Node, Numbe
 use Rattle.sja_live.specs.declared.live_command.LiveCommand.{LiveCommand}
 use Rattle.sja_live.specs.declared.live_command.LiveCommand.TheVariants.{To}
 use Rattle.sja_plan.specs.declared.place.Place.{Place}
-use Rattle.sja_plan.specs.Words.{Text, greatest, SpellsWithin, SpellsNode}
+use Rattle.sja_plan_reading.specs.Words.{Text, greatest, SpellsWithin, SpellsNode}
 
 -- ---- bytes
 
@@ -68,7 +68,7 @@ pub record IsWithin (before after : Option Text) (kept : Text) (count : ℕ) : T
   pub many : count ≡ length front
 
 -- a line wasn't read, or not answered, and so much of the input is left; where the bytes are known
-abbrev pub LeavesLine : Option Text → Option Text → TalkFault → Type 0
+abbrev pub LeavesLine : Option Text → Option Text → LiveSessionFault → Type 0
 LeavesLine (Some input) (Some left) fault = IsLeftUnanswered fault input left
 LeavesLine (Some input) None fault = ⊥
 LeavesLine None left fault = Unit {0}

@@ -1,6 +1,6 @@
 -- Where the session of a talk stands (this project's own rule), and that all that it wrote has a text.
 use Rattle.std.specs.Prelude.{◌≤◌, List, All}
-use Rattle.sja_driver.specs.Accesses.{Access}
+use Rattle.sja_driver.specs.StepRuns.{StepRun}
 use Rattle.sja_live.specs.Answering.{Answers}
 use Rattle.sja_live.specs.declared.live_answer.LiveAnswer.{LiveAnswer}
 use Rattle.sja_live.specs.declared.live_command.LiveCommand.{LiveCommand}
@@ -28,13 +28,13 @@ pub record IsSpelled (p : PlanValue) : Type 0 where
   pub strikes : All HasStrikeText p.strikes
 
 -- a session stands where the drivers did these steps, and where it has an end, what it wrote has texts
-pub record IsLiveAt (s : SessionValue) (accesses : List (List Access)) : Type 0 where
-  pub at : IsAt s accesses
+pub record IsLiveAt (s : SessionValue) (step_runs : List (List StepRun)) : Type 0 where
+  pub at : IsAt s step_runs
   pub spelled : HasEnd s → IsSpelled (written s)
 
 -- it does, wherever that is
 abbrev pub IsLive : SessionValue → Type 0
-IsLive s = (accesses : List (List Access)) × IsLiveAt s accesses
+IsLive s = (step_runs : List (List StepRun)) × IsLiveAt s step_runs
 
 -- what a command has a session write has a text in its version, and it isn't the end
 abbrev pub IsWritable : SessionValue → LiveCommand → Type 0
@@ -45,5 +45,5 @@ IsWritable s other = Unit {0}
 -- a command is answered so, wherever the session stands
 abbrev pub IsAnswered : SessionValue → SessionValue → LiveCommand → LiveAnswer → Type 0
 IsAnswered was now command told =
-    (accesses : List (List Access)) → IsLiveAt was accesses →
-    (after : List (List Access)) × Answers was now accesses command told after × IsLiveAt now after
+    (step_runs : List (List StepRun)) → IsLiveAt was step_runs →
+    (after : List (List StepRun)) × Answers was now step_runs command told after × IsLiveAt now after

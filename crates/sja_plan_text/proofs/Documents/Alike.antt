@@ -6,12 +6,12 @@ use Rattle.toml.specs.Data.{integer}
 use Rattle.toml.specs.Tables.{Expression, Definition, key_value, std_table, array_table}
 use Rattle.toml.specs.Text.{IsValueText, IsItemsText, IsLineText, IsLinesText}
 use Rattle.toml.specs.Text.{breaks_lines, before_item, after_item, gap}
-use Rattle.sja_plan.specs.Faults.{IsPlanOf}
-use Rattle.sja_plan.specs.Limits.{most_bytes}
+use Rattle.sja_plan_reading.specs.Faults.{IsPlanOf}
+use Rattle.sja_plan_reading.specs.DocumentLimits.{most_bytes}
 use Rattle.sja_plan.specs.Plan.{PlanValue}
-use Rattle.sja_plan.specs.Words.{Text}
-use Rattle.sja_script.specs.declared.step.Step.{Step}
-use Rattle.sja_script.specs.declared.strike.Strike.{Strike}
+use Rattle.sja_plan_reading.specs.Words.{Text}
+use Rattle.sja_steps.specs.declared.step.Step.{Step}
+use Rattle.sja_steps.specs.declared.strike.Strike.{Strike}
 use Rattle.sja_plan_text.specs.Texts.{spelled_step, turn_text, strike_text}
 use Rattle.sja_plan_text.specs.Written.{texts_data}
 use Rattle.sja_plan_text.specs.Written.{pair, strike_lines, node_lines, plan_lines, has_names, IsWritten, IsLong}

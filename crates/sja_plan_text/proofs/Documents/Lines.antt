@@ -5,9 +5,9 @@ use Rattle.toml.specs.Data.{Data, integer, member, no_members}
 use Rattle.toml.specs.Tables.{Expression, array_table}
 use Rattle.toml.specs.Text.{IsLinesText, IsDocumentText, expressions, elements}
 use Rattle.toml.proofs.ReadLines.{AllPrinted}
-use Rattle.sja_plan.specs.Words.{Text}
-use Rattle.sja_script.specs.declared.step.Step.{Step}
-use Rattle.sja_script.specs.declared.strike.Strike.{Strike}
+use Rattle.sja_plan_reading.specs.Words.{Text}
+use Rattle.sja_steps.specs.declared.step.Step.{Step}
+use Rattle.sja_steps.specs.declared.strike.Strike.{Strike}
 use Rattle.sja_plan_text.specs.Texts.{spelled_step, strike_text}
 use Rattle.sja_plan_text.specs.Written.{pair, strikes_key, strike_lines, node_lines, front_lines, texts_data}
 use Rattle.sja_plan_text.specs.Inside.Table.{nodes_data, with_strikes}

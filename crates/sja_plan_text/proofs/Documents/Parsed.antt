@@ -11,9 +11,9 @@ use Rattle.toml.proofs.Turns.{document_some}
 use Rattle.toml.proofs.ReadLines.{run, AllPrinted, line_turn, read_lines}
 use Rattle.toml.proofs.Fill.{roots, body_from, run_sections}
 use Rattle.toml.proofs.Filled.{fill_filled}
-use Rattle.sja_plan.specs.Words.{Text}
-use Rattle.sja_script.specs.declared.step.Step.{Step}
-use Rattle.sja_script.specs.declared.strike.Strike.{Strike}
+use Rattle.sja_plan_reading.specs.Words.{Text}
+use Rattle.sja_steps.specs.declared.step.Step.{Step}
+use Rattle.sja_steps.specs.declared.strike.Strike.{Strike}
 use Rattle.sja_plan_text.specs.Inside.Table.{nodes_data, with_strikes, members_of, Adds}
 use Rattle.sja_plan_text.specs.Written.{texts_data, pair, strike_lines, node_lines, front_lines}
 use Rattle.sja_plan_text.proofs.Tables.Values.{texts_sorted, nodes_sorted, nodes_are_tables}

@@ -1,18 +1,18 @@
 -- A plan that was read has texts.
 use Rattle.std.proofs.Common.{◌≤◌, ℕ, List, length, All, subst, arith}
 use Rattle.std.specs.List.{AllZip}
-use Rattle.sja_plan.specs.StepTexts.{SaysStep}
-use Rattle.sja_plan.specs.TurnTexts.{SaysTurn}
-use Rattle.sja_plan.specs.StrikeTexts.{SaysStrike}
-use Rattle.sja_plan.specs.Words.{Text}
+use Rattle.sja_plan_reading.specs.StepTexts.{SaysStep}
+use Rattle.sja_plan_reading.specs.TurnTexts.{SaysTurn}
+use Rattle.sja_plan_reading.specs.StrikeTexts.{SaysStrike}
+use Rattle.sja_plan_reading.specs.Words.{Text}
 use Rattle.sja_plan.specs.Limits.{most_steps}
 use Rattle.sja_plan.specs.Plan.{PlanValue}
-use Rattle.sja_plan.specs.Checks.{SaysPlan}
-use Rattle.sja_plan.specs.Document.{DocumentValue}
-use Rattle.sja_plan.specs.Faults.{IsPlanOf}
-use Rattle.sja_script.specs.declared.step.Step.{Step}
-use Rattle.sja_plan.proofs.PlanLimits.ByVersion.{version_is}
-use Rattle.sja_plan.proofs.PlanLimits.WithinLimits.{few_read}
+use Rattle.sja_plan_reading.specs.Checks.{SaysPlan}
+use Rattle.sja_plan_reading.specs.Document.{DocumentValue}
+use Rattle.sja_plan_reading.specs.Faults.{IsPlanOf}
+use Rattle.sja_steps.specs.declared.step.Step.{Step}
+use Rattle.sja_plan_reading.proofs.PlanLimits.OfDocuments.{version_is}
+use Rattle.sja_plan_reading.proofs.PlanLimits.WithinLimits.{few_read}
 use Rattle.sja_plan_text.specs.HasTexts.{HasStepText, HasTurnText, HasStrikeText, HasTexts}
 use Rattle.sja_plan_text.proofs.Tables.Lists.{all_said}
 use Rattle.sja_plan_text.proofs.Spelling.Steps.{has_step_text}

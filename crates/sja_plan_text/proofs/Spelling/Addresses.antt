@@ -6,9 +6,9 @@ use Rattle.std.specs.List.{list_all}
 use Rattle.std.proofs.lemmas.Bool.{and_parts, eqb-true}
 use Rattle.std.proofs.lemmas.Bool.Decides.{nat_tests}
 use Rattle.std.proofs.lemmas.Option.{none-some, same_Some}
-use Rattle.sja_plan.specs.Words.{Text, number_of}
-use Rattle.sja_plan.specs.Accesses.{prefixed_byte, SpellsAddress}
-use Rattle.sja_plan.specs.RegisterNames.{registers, register_address}
+use Rattle.sja_plan_reading.specs.Words.{Text, number_of}
+use Rattle.sja_plan_reading.specs.Accesses.{prefixed_byte, SpellsAddress}
+use Rattle.sja_plan_reading.specs.RegisterNames.{registers, register_address}
 use Rattle.sja_plan_text.specs.Names.{name_in, register_name, name_or_number, address_word}
 use Rattle.sja_plan_text.proofs.Spelling.Words.{is_word, decimal_word, spells}
 

@@ -5,8 +5,8 @@ use Rattle.std.specs.List.{list_all, list_any}
 use Rattle.std.specs.Str.{str_eq_ignore_ascii_case}
 use Rattle.std.proofs.lemmas.Bool.{and_parts, not-true, eqb-true, eqb-false, false≢true}
 use Rattle.std.proofs.lemmas.Bool.Decides.{nat_tests}
-use Rattle.sja_plan.specs.Words.{Text}
-use Rattle.sja_plan.specs.BitNames.{is_among, byte}
+use Rattle.sja_plan_reading.specs.Words.{Text}
+use Rattle.sja_plan_reading.specs.BitNames.{is_among, byte}
 use Rattle.sja_plan_text.specs.Names.{set_names}
 
 abbrev pub same : Text → Text → Bool

@@ -15,8 +15,8 @@ use Rattle.can_notation.specs.Text.{body_text, rest_text, text, Says}
 use Rattle.can_notation.proofs.DigitLemmas.{capitals-digits_of}
 use Rattle.can_notation.proofs.RestLemmas.{capitals-rest_text}
 use Rattle.hex.specs.Hex.{IsBytes}
-use Rattle.sja_plan.specs.Words.{Text}
-use Rattle.sja_plan.specs.Messages.{SaysMessage}
+use Rattle.sja_plan_reading.specs.Words.{Text}
+use Rattle.sja_plan_reading.specs.Messages.{SaysMessage}
 use Rattle.sja_plan_text.specs.Names.{message_word}
 use Rattle.sja_plan_text.proofs.Spelling.Words.{is_word, without_both}
 

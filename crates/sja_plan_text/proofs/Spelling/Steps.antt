@@ -3,14 +3,15 @@ use Rattle.std.proofs.Common.{◌≡◌, ◌≤◌, inl, inr, ℕ, Bool, true, f
 use Rattle.std.proofs.Common.{refl, arith}
 use Rattle.hex.specs.Hex.{encode_lower}
 use Rattle.hex.proofs.HexLemmas.{decode_of-encode_lower}
-use Rattle.sja_plan.specs.Words.{Text}
-use Rattle.sja_plan.specs.StepTexts.{SaysStep}
-use Rattle.sja_plan.proofs.OneReading.OneMessage.{is_message}
-use Rattle.sja_script.specs.declared.step.Step.{Step}
-use Rattle.sja_script.specs.declared.step.Step.TheVariants.{Start, Stop, Window, Release, Read}
-use Rattle.sja_script.specs.declared.step.Step.TheVariants.{Write, Load, Command, Await, Sent, Interrupt, At}
+use Rattle.sja_plan_reading.specs.Words.{Text}
+use Rattle.sja_plan_reading.specs.StepTexts.{SaysStep}
+use Rattle.sja_plan_reading.proofs.OneReading.OneMessage.{is_message}
+use Rattle.sja_steps.specs.declared.step.Step.{Step}
+use Rattle.sja_steps.specs.declared.step.Step.TheVariants.{Start, Stop, Window, Release, Read}
+use Rattle.sja_steps.specs.declared.step.Step.TheVariants.{Write, Load, Command, Await, Sent, Interrupt, At}
 use Rattle.sja_plan_text.specs.Names.{before_transmit, before_receive, address_word, value_word, message_word}
-use Rattle.sja_plan_text.specs.Texts.{step_text, named_text, spelled_step}
+use Rattle.sja_plan_text.specs.Texts.{named_text, spelled_step}
+use Rattle.sja_steps.specs.StepText.{step_text}
 use Rattle.sja_plan_text.specs.HasTexts.{HasStepText}
 use Rattle.sja_plan_text.proofs.Spelling.Words.{words_joined, decimal_word, spells, encode_word, one_byte}
 use Rattle.sja_plan_text.proofs.Spelling.Messages.{message_bytes, message_said, message_is_word}

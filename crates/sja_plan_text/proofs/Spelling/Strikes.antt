@@ -2,19 +2,13 @@
 use Rattle.std.proofs.Common.{◌≡◌, ◌==◌, ◌&&◌, ◌∙◌, ℕ, Bool, true, false}
 use Rattle.std.proofs.Common.{List, [], ◌∷◌, decimal, refl, sym, ap, subst, arith}
 use Rattle.std.proofs.lemmas.Bool.{and_parts, eqb-true}
-use Rattle.sja_plan.specs.Words.{Text, words}
-use Rattle.sja_plan.specs.StrikeTexts.{AreStrikeWords, SaysStrike, strike_count, count_of}
+use Rattle.sja_plan_reading.specs.Words.{Text, words}
+use Rattle.sja_plan_reading.specs.StrikeTexts.{AreStrikeWords, SaysStrike, strike_count, count_of}
 use Rattle.sja_plan.specs.Plan.{IsStrikeOn}
-use Rattle.sja_script.specs.declared.strike.Strike.{Strike}
+use Rattle.sja_steps.specs.declared.strike.Strike.{Strike}
 use Rattle.sja_plan_text.specs.Texts.{strike_words, strike_text}
 use Rattle.sja_plan_text.specs.HasTexts.{HasStrikeText}
 use Rattle.sja_plan_text.proofs.Spelling.Words.{words_joined, decimal_word, is_number-decimal, value-decimal, spells}
-
-abbrev two : Strike → List Text
-two s = decimal s.node ∷ decimal s.bit ∷ []
-
-abbrev four : Strike → List Text
-four s = decimal s.node ∷ decimal s.bit ∷ decimal s.every ∷ decimal s.times ∷ []
 
 abbrev is_once : Strike → Bool
 is_once s = s.every == 1 && s.times == 1

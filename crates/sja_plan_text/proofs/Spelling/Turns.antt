@@ -1,7 +1,7 @@
 -- The texts of turns.
 use Rattle.std.proofs.Common.{ℕ, [], ◌∷◌, codes, decimal, refl, arith}
-use Rattle.sja_plan.specs.Words.{Text}
-use Rattle.sja_plan.specs.TurnTexts.{SaysTurn}
+use Rattle.sja_plan_reading.specs.Words.{Text}
+use Rattle.sja_plan_reading.specs.TurnTexts.{SaysTurn}
 use Rattle.sja_plan.specs.Plan.{NamesNode}
 use Rattle.sja_plan.specs.declared.turn.Turn.{Turn}
 use Rattle.sja_plan.specs.declared.turn.Turn.TheVariants.{Bus, Rest, Node, All, Irq, Go}

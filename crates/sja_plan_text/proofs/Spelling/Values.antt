@@ -8,9 +8,9 @@ use Rattle.std.proofs.Common.{length-append, option_map}
 use Rattle.std.specs.List.{list_all, join_with_byte}
 use Rattle.hex.specs.Hex.{encode_lower, decode_sized, decode_pairs}
 use Rattle.hex.proofs.HexLemmas.{decode_of-encode_lower, decode_of-ok, decode_sized-twice}
-use Rattle.sja_plan.specs.Words.{Text}
-use Rattle.sja_plan.specs.Accesses.{byte_of, prefixed_byte, SpellsValue}
-use Rattle.sja_plan.specs.BitNames.{bits, bit_names, parts, byte_of_names}
+use Rattle.sja_plan_reading.specs.Words.{Text}
+use Rattle.sja_plan_reading.specs.Accesses.{byte_of, prefixed_byte, SpellsValue}
+use Rattle.sja_plan_reading.specs.BitNames.{bits, bit_names, parts, byte_of_names}
 use Rattle.sja_plan_text.specs.Names.{set_names, are_named, names_or_digits, value_by, value_word}
 use Rattle.sja_plan_text.proofs.Spelling.Words.{is_without, are_without, parts_joined, without_both, is_word}
 use Rattle.sja_plan_text.proofs.Spelling.Words.{encode_word, one_byte}

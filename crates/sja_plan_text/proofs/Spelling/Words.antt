@@ -11,9 +11,9 @@ use Rattle.std.specs.Str.{all_ascii_digits}
 use Rattle.std.specs.Str.Parse.{digits_value}
 use Rattle.hex.specs.Hex.{IsBytes, encode_lower, is_hex_digit}
 use Rattle.hex.proofs.HexLemmas.{decode_of-encode_lower, decode_of-ok}
-use Rattle.sja_plan.specs.Words.{Text, words, is_number, SpellsWithin}
-use Rattle.sja_plan.proofs.Spelling.Numbers.{own}
-use Rattle.sja_plan_text.specs.Texts.{joined}
+use Rattle.sja_plan_reading.specs.Words.{Text, words, is_number, SpellsWithin}
+use Rattle.sja_plan_reading.proofs.Spelling.Numbers.{own}
+use Rattle.sja_steps.specs.StepText.{joined}
 
 eqb-same : (n : ℕ) → (n == n) ≡ true
 eqb-same n = by_case (eqb_tells n n)

@@ -6,16 +6,16 @@ use Rattle.std.proofs.lemmas.List.Elements.{All-map, All-weaker, All-head, All-t
 use Rattle.std.proofs.lemmas.List.Sums.{sum_by-cons}
 use Rattle.std.specs.List.{AllZip}
 use Rattle.toml.specs.Parse.{parse_document}
-use Rattle.sja_plan.specs.Words.{Text}
-use Rattle.sja_plan.specs.StepTexts.{SaysStep}
-use Rattle.sja_plan.specs.TurnTexts.{SaysTurn}
-use Rattle.sja_plan.specs.StrikeTexts.{SaysStrike, count_of, strikes_in}
+use Rattle.sja_plan_reading.specs.Words.{Text}
+use Rattle.sja_plan_reading.specs.StepTexts.{SaysStep}
+use Rattle.sja_plan_reading.specs.TurnTexts.{SaysTurn}
+use Rattle.sja_plan_reading.specs.StrikeTexts.{SaysStrike, count_of, strikes_in}
 use Rattle.sja_plan.specs.Limits.{most_steps}
 use Rattle.sja_plan.specs.Plan.{PlanValue, IsInLimits, NamesNode, IsStrikeOn, times_in}
-use Rattle.sja_plan.specs.Checks.{SaysPlan}
-use Rattle.sja_plan.specs.Faults.{IsText, IsPlanOf}
-use Rattle.sja_script.specs.declared.step.Step.{Step}
-use Rattle.sja_script.specs.declared.strike.Strike.{Strike}
+use Rattle.sja_plan_reading.specs.Checks.{SaysPlan}
+use Rattle.sja_plan_reading.specs.Faults.{IsText, IsPlanOf}
+use Rattle.sja_steps.specs.declared.step.Step.{Step}
+use Rattle.sja_steps.specs.declared.strike.Strike.{Strike}
 use Rattle.sja_plan_text.specs.Texts.{spelled_step, turn_text, strike_text}
 use Rattle.sja_plan_text.specs.HasTexts.{HasStepText, HasTurnText, HasStrikeText, HasTexts}
 use Rattle.sja_plan_text.specs.Document.{IsDocumentOf}

@@ -1,10 +1,10 @@
 -- The table of a plan has a plan's shape, and says what stands in the plan.
 use Rattle.std.proofs.Common.{◌≡◌, Bool, true, false, Some, List, [], ◌∷◌, map, refl}
-use Rattle.sja_plan.specs.Words.{Text}
-use Rattle.sja_plan.specs.Document.{texts_of, nodes_of, HasShape}
+use Rattle.sja_plan_reading.specs.Words.{Text}
+use Rattle.sja_plan_reading.specs.Document.{texts_of, nodes_of, HasShape}
 use Rattle.sja_plan.specs.Plan.{PlanValue}
-use Rattle.sja_script.specs.declared.step.Step.{Step}
-use Rattle.sja_script.specs.declared.strike.Strike.{Strike}
+use Rattle.sja_steps.specs.declared.step.Step.{Step}
+use Rattle.sja_steps.specs.declared.strike.Strike.{Strike}
 use Rattle.sja_plan_text.specs.Texts.{spelled_step}
 use Rattle.sja_plan_text.specs.Inside.Table.{plan_members, plan_document}
 use Rattle.sja_plan_text.proofs.Tables.Values.{text_items, node_items}

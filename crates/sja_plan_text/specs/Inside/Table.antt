@@ -3,11 +3,11 @@ use Rattle.std.specs.Prelude.{◌≡◌, ℕ, Bool, true, false, pos, List, [], 
 use Rattle.toml.specs.Data.{Data, integer, array, table, Members, no_members, member}
 use Rattle.toml.specs.Text.{IsDocumentText}
 use Rattle.toml.specs.View.{items_of}
-use Rattle.sja_plan.specs.Words.{Text}
-use Rattle.sja_plan.specs.Document.{DocumentValue}
+use Rattle.sja_plan_reading.specs.Words.{Text}
+use Rattle.sja_plan_reading.specs.Document.{DocumentValue}
 use Rattle.sja_plan.specs.Plan.{PlanValue}
-use Rattle.sja_script.specs.declared.step.Step.{Step}
-use Rattle.sja_script.specs.declared.strike.Strike.{Strike}
+use Rattle.sja_steps.specs.declared.step.Step.{Step}
+use Rattle.sja_steps.specs.declared.strike.Strike.{Strike}
 use Rattle.sja_plan_text.specs.Texts.{spelled_step, turn_text, strike_text}
 use Rattle.sja_plan_text.specs.Written.{strikes_key, texts_data}
 

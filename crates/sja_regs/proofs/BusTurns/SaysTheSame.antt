@@ -3,7 +3,7 @@ use Rattle.std.proofs.Common.{◌≡◌, sym, ◌∙◌}
 use Rattle.sja_regs.specs.declared.bus_turn.BusTurn.{BusTurn}
 use Rattle.sja_regs.specs.declared.registers.Registers.{Registers}
 use Rattle.sja_regs.specs.Turns.{after_turn}
-use Rattle.sja_regs.specs.Keeping.{SaysTheSame}
+use Rattle.sja_regs.specs.Preservation.{SaysTheSame}
 use Rattle.sja_regs.proofs.BusTurns.TurnLemmas.{nothing_else, nothing_said}
 
 pub says_same : (p : Registers) (turn : BusTurn) → SaysTheSame p turn → after_turn p turn ≡ p

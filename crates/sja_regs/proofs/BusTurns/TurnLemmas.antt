@@ -9,10 +9,10 @@ use Rattle.sja_regs.specs.Captures.{after_capture}
 use Rattle.sja_regs.specs.Interrupting.{no_interrupt, pending_after}
 use Rattle.sja_regs.specs.Bits.{differ}
 use Rattle.sja_regs.specs.declared.interrupts.Interrupts.{Interrupts}
-use Rattle.sja_regs.specs.Registers.{is_raw, shown_state, error_causes, pending_in_reset}
+use Rattle.sja_regs.specs.Registers.{by_bytes, shown_state, error_causes, pending_in_reset}
 use Rattle.sja_regs.specs.Turns.{is_live, is_sent, ends, goes_off, may_tell, dos_after, tbs_after, abort_after}
 use Rattle.sja_regs.specs.Turns.{with_node, code_of_fault, lost_in, fault_in, causes, after_turn}
-use Rattle.sja_regs.specs.Keeping.{OnlyEnabled, BringsNoNews, SaysTheSame}
+use Rattle.sja_regs.specs.Preservation.{OnlyEnabled, BringsNoNews, SaysTheSame}
 use Rattle.sja_regs.specs.Inside.TurnParts.{activity, with_counters, with_role, with_news}
 
 -- ---- interrupts that are pending
@@ -53,15 +53,15 @@ ei_among i =
     }
 
 -- what stays pending was pending, also where reset mode is entered
-stay_among : (off raw : Bool) (i : Interrupts) →
-    AreAmong (if off then (if raw then record no_interrupt { ei = i.ei } else i) else i) i
+stay_among : (off by_bytes : Bool) (i : Interrupts) →
+    AreAmong (if off then (if by_bytes then record no_interrupt { ei = i.ei } else i) else i) i
 stay_among true true i = ei_among i
 stay_among true false i = all_among i
-stay_among false raw i = all_among i
+stay_among false by_bytes i = all_among i
 
 turn_enabled : (p : Registers) (turn : BusTurn) → OnlyEnabled p (after_turn p turn)
 turn_enabled p turn =
-    let some = stay_among (goes_off p turn) (is_raw p) (pending_after p.pending p.enabled (causes p turn)) in
+    let some = stay_among (goes_off p turn) (by_bytes p) (pending_after p.pending p.enabled (causes p turn)) in
     record {
       ti = λ h. pending_or_enabled (causes p turn).ti p.enabled.ti p.pending.ti (some.ti h);
       ei = λ h. pending_or_enabled (causes p turn).ei p.enabled.ei p.pending.ei (some.ei h);
@@ -174,7 +174,7 @@ still : (p : Registers) → pending_after p.pending p.enabled (error_causes p p)
 still p = λ i. record p.pending {
   ei = ap (λ b. b && p.enabled.ei || p.pending.ei) (no_differ (shown_state p).es (shown_state p).bs) i;
   epi = ap (λ b. b && p.enabled.epi || p.pending.epi)
-      (no_change (shown_state p).passive (not (is_raw p && (not (shown_state p).bs && (shown_state p).bs)))) i;
+      (no_change (shown_state p).passive (not (by_bytes p && (not (shown_state p).bs && (shown_state p).bs)))) i;
 }
 
 counted : (p : Registers) (turn : BusTurn) → SaysTheSame p turn → with_counters p turn ≡ p

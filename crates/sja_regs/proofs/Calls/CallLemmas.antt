@@ -14,8 +14,8 @@ use Rattle.sja_regs.specs.declared.reg_fault.RegFault.TheVariants.{ResetOnly}
 use Rattle.sja_regs.specs.declared.registers.Registers.{Registers}
 use Rattle.sja_regs.specs.ErrorStates.{causes_between}
 use Rattle.sja_regs.specs.Modes.{mode_of}
-use Rattle.sja_regs.specs.Registers.{is_raw, error_state_of, error_causes, without_reset, after_leaving_reset}
-use Rattle.sja_regs.specs.Registers.{is_forced, gone_off, after_entering_reset}
+use Rattle.sja_regs.specs.Registers.{by_bytes, error_state_of, error_causes, without_reset, after_leaving_reset}
+use Rattle.sja_regs.specs.Registers.{is_forced, gone_off}
 use Rattle.sja_regs.specs.Turns.{goes_off, causes}
 use Rattle.sja_regs.specs.Interrupting.{no_interrupt, pending_after}
 use Rattle.sja_regs.specs.Captures.{after_capture}
@@ -25,7 +25,7 @@ use Rattle.sja_regs.specs.Writing.{mode_faults, after_forced_off, write_faults, 
 use Rattle.sja_regs.specs.Writing.{load_faults, after_loading}
 use Rattle.sja_regs.specs.Commands.{requests, command_faults, after_command}
 use Rattle.sja_regs.specs.Calls.{Call, Turn, Read, Write, Load, Give, LeaveReset}
-use Rattle.sja_regs.specs.Calls.{EnterReset, Restore, Close, Finish, unless_refused, after_call}
+use Rattle.sja_regs.specs.Calls.{EnterReset, Close, Finish, unless_refused, after_call}
 use Rattle.sja_regs.specs.Histories.{IsNoRequest, lost_by, fault_by, either, both, if_done, causes_by, enters_reset}
 use Rattle.sja_regs.specs.Histories.{IsEarlier, releases}
 use Rattle.sja_regs.proofs.Calls.KeepLemmas.{read_keeps, write_keeps, leaving_keeps}
@@ -70,8 +70,6 @@ alc_by p (Load m) h = unless_keeps (λ q. q.alc) (first_fault (load_faults p)) p
 alc_by p (Give c) h = unless_keeps (λ q. q.alc) (first_fault (command_faults p c)) p (after_command p c) refl
 alc_by p LeaveReset h = leaving_keeps (λ q. q.alc) p.mode.rm p (after_leaving_reset p) refl
 alc_by p EnterReset h = refl
-alc_by p (Restore s) h =
-    leaving_keeps (λ q. q.alc) (s.mode.rm && not p.mode.rm) p (after_entering_reset p) refl
 alc_by p Close h = refl
 alc_by p Finish h = refl
 
@@ -87,8 +85,6 @@ ecc_by p (Load m) h = unless_keeps (λ q. q.ecc) (first_fault (load_faults p)) p
 ecc_by p (Give c) h = unless_keeps (λ q. q.ecc) (first_fault (command_faults p c)) p (after_command p c) refl
 ecc_by p LeaveReset h = leaving_keeps (λ q. q.ecc) p.mode.rm p (after_leaving_reset p) refl
 ecc_by p EnterReset h = refl
-ecc_by p (Restore s) h =
-    leaving_keeps (λ q. q.ecc) (s.mode.rm && not p.mode.rm) p (after_entering_reset p) refl
 ecc_by p Close h = refl
 ecc_by p Finish h = refl
 
@@ -149,23 +145,18 @@ left_pending true p q causes h = h
 left_pending false p q causes h = refl
 
 -- what is pending stays, where reset mode isn't entered or doesn't clear it
-stays_pending : (raw enters : Bool) (pending : Interrupts) → (raw && enters) ≡ false →
-    (if enters then (if raw then record no_interrupt { ei = pending.ei } else pending) else pending) ≡ pending
+stays_pending : (by_bytes enters : Bool) (pending : Interrupts) → (by_bytes && enters) ≡ false →
+    (if enters then (if by_bytes then record no_interrupt { ei = pending.ei } else pending) else pending) ≡ pending
 stays_pending true true pending h = absurd cc
 stays_pending true false pending h = refl
 stays_pending false true pending h = refl
 stays_pending false false pending h = refl
 
-restored_pending : (p : Registers) (enters : Bool) → (is_raw p && enters) ≡ false →
-    (if enters then after_entering_reset p else p).pending ≡ p.pending
-restored_pending p true h = stays_pending (is_raw p) true p.pending h
-restored_pending p false h = refl
-
 -- IR takes the interrupts that have a cause and are enabled
-pub pending_by : (p : Registers) (call : Call) → call ≢ Read Interrupt → (is_raw p && enters_reset p call) ≡ false →
+pub pending_by : (p : Registers) (call : Call) → call ≢ Read Interrupt → (by_bytes p && enters_reset p call) ≡ false →
     (after_call p call).pending ≡ either (both (causes_by p call) p.enabled) p.pending
 pending_by p (Turn turn) h keeps =
-    stays_pending (is_raw p) (goes_off p turn) (pending_after p.pending p.enabled (causes p turn)) keeps
+    stays_pending (by_bytes p) (goes_off p turn) (pending_after p.pending p.enabled (causes p turn)) keeps
 pending_by p (Read register) h keeps = unread_pending p register (λ e. h (ap Read e))
 pending_by p (Write register value) h keeps = written p register value
 pending_by p (Load m) h keeps = unless_keeps (λ q. q.pending) (first_fault (load_faults p)) p (after_loading p m) refl
@@ -173,41 +164,35 @@ pending_by p (Give c) h keeps =
     unless_keeps (λ q. q.pending) (first_fault (command_faults p c)) p (after_command p c) refl
 pending_by p LeaveReset h keeps =
     left_pending p.mode.rm p (after_leaving_reset p) (error_causes p (without_reset p)) refl
-pending_by p EnterReset h keeps = stays_pending (is_raw p) true p.pending keeps
-pending_by p (Restore s) h keeps = restored_pending p (s.mode.rm && not p.mode.rm) keeps
+pending_by p EnterReset h keeps = stays_pending (by_bytes p) true p.pending keeps
 pending_by p Close h keeps = refl
 pending_by p Finish h keeps = refl
 
 -- the version stays below 3
-pub earlier_by : (p : Registers) (call : Call) → IsEarlier call → is_raw p ≡ false → is_raw (after_call p call) ≡ false
-earlier_by p (Turn turn) is raw = raw
-earlier_by p (Read register) is raw =
-    ap (nat_le 3) (read_keeps (λ q. q.version) (λ q i a c. refl) (Some register) p) ∙ raw
-earlier_by p (Write register value) is raw =
+pub earlier_by : (p : Registers) (call : Call) → IsEarlier call → by_bytes p ≡ false →
+    by_bytes (after_call p call) ≡ false
+earlier_by p (Turn turn) is by_bytes = by_bytes
+earlier_by p (Read register) is by_bytes =
+    ap (nat_le 3) (read_keeps (λ q. q.version) (λ q i a c. refl) (Some register) p) ∙ by_bytes
+earlier_by p (Write register value) is by_bytes =
     ap (nat_le 3) (unless_keeps (λ q. q.version) (first_fault (write_faults p register value)) p
-    (after_writing p register value) (write_keeps (λ q. q.version) (λ q s i. refl) (Some register) value p)) ∙ raw
-earlier_by p (Load m) is raw =
-    ap (nat_le 3) (unless_keeps (λ q. q.version) (first_fault (load_faults p)) p (after_loading p m) refl) ∙ raw
-earlier_by p (Give c) is raw =
-    ap (nat_le 3) (unless_keeps (λ q. q.version) (first_fault (command_faults p c)) p (after_command p c) refl) ∙ raw
-earlier_by p LeaveReset is raw =
-    ap (nat_le 3) (leaving_keeps (λ q. q.version) p.mode.rm p (after_leaving_reset p) refl) ∙ raw
-earlier_by p EnterReset is raw = raw
-earlier_by p (Restore s) is raw = is
-earlier_by p Close is raw = raw
-earlier_by p Finish is raw = raw
+    (after_writing p register value) (write_keeps (λ q. q.version) (λ q s i. refl) (Some register) value p)) ∙ by_bytes
+earlier_by p (Load m) is by_bytes =
+    ap (nat_le 3) (unless_keeps (λ q. q.version) (first_fault (load_faults p)) p (after_loading p m) refl) ∙ by_bytes
+earlier_by p (Give c) is by_bytes =
+    ap (nat_le 3) (unless_keeps (λ q. q.version) (first_fault (command_faults p c)) p (after_command p c) refl)
+    ∙ by_bytes
+earlier_by p LeaveReset is by_bytes =
+    ap (nat_le 3) (leaving_keeps (λ q. q.version) p.mode.rm p (after_leaving_reset p) refl) ∙ by_bytes
+earlier_by p EnterReset is by_bytes = by_bytes
+earlier_by p Close is by_bytes = by_bytes
+earlier_by p Finish is by_bytes = by_bytes
 
 -- a bit stays where no request is made
 stays : (b request : Bool) → request ≡ false → (b && not request) ≡ b
 stays true false h = refl
 stays false false h = refl
 stays b true h = absurd cc
-
--- the buffer is released where reset mode is entered
-released_if : (enters : Bool) (p : Registers) →
-    (if enters then after_entering_reset p else p).tbs ≡ (enters || p.tbs)
-released_if true p = refl
-released_if false p = refl
 
 -- TBS is 1 where the call releases the transmit buffer
 pub tbs_by : (p : Registers) (call : Call) → IsNoRequest call → (after_call p call).tbs ≡ (releases p call || p.tbs)
@@ -221,6 +206,5 @@ tbs_by p (Give c) h =
     unless_keeps (λ q. q.tbs) (first_fault (command_faults p c)) p (after_command p c) (stays p.tbs (requests c) h)
 tbs_by p LeaveReset h = leaving_keeps (λ q. q.tbs) p.mode.rm p (after_leaving_reset p) refl
 tbs_by p EnterReset h = refl
-tbs_by p (Restore s) h = released_if (s.mode.rm && not p.mode.rm) p
 tbs_by p Close h = refl
 tbs_by p Finish h = refl

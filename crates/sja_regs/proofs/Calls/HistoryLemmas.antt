@@ -12,7 +12,7 @@ use Rattle.sja_regs.specs.Calls.{Call, Read, after_call, after_calls}
 use Rattle.sja_regs.specs.Histories.{IsUnread, IsNoRequest, or_else, lost_by, first_lost, fault_by, first_error}
 use Rattle.sja_regs.specs.Histories.{either, both, causes_by, enabled_causes, enters_reset, KeepPending, IsEarlier}
 use Rattle.sja_regs.specs.Histories.{releases, some_release}
-use Rattle.sja_regs.specs.Registers.{is_raw}
+use Rattle.sja_regs.specs.Registers.{by_bytes}
 use Rattle.sja_regs.proofs.Calls.CallLemmas.{alc_by, ecc_by, pending_by, earlier_by, tbs_by}
 
 -- the first call, and those after it
@@ -88,11 +88,11 @@ pending_latched p (call ∷ calls) h keep =
     ∙ all_turned (enabled_causes next calls) (both (causes_by p call) p.enabled) p.pending
 
 -- before version 3 no call clears what is pending
-pub keep_pending : (p : Registers) (calls : List Call) → is_raw p ≡ false → All IsEarlier calls → KeepPending p calls
-keep_pending p [] raw h = record {}
-keep_pending p (call ∷ calls) raw h = (
-  ap (λ r. r && enters_reset p call) raw,
-  keep_pending (after_call p call) calls (earlier_by p call (All-head IsEarlier call calls h) raw)
+pub keep_pending : (p : Registers) (calls : List Call) → by_bytes p ≡ false → All IsEarlier calls → KeepPending p calls
+keep_pending p [] by_bytes h = record {}
+keep_pending p (call ∷ calls) by_bytes h = (
+  ap (λ r. r && enters_reset p call) by_bytes,
+  keep_pending (after_call p call) calls (earlier_by p call (All-head IsEarlier call calls h) by_bytes)
       (All-tail IsEarlier call calls h),
 )
 

@@ -1,6 +1,6 @@
 -- What the parts of a turn's code do.
 use Rattle.std.specs.Prelude.{◌≡◌, ◌||◌, ◌&&◌, not, is_some, if◌then◌else◌}
-use Rattle.can_node.specs.declared.bit_events.BitEvents.{BitEvents}
+use Rattle.can_node_rules.specs.declared.bit_events.BitEvents.{BitEvents}
 use Rattle.sja_regs.specs.declared.bus_turn.BusTurn.{BusTurn}
 use Rattle.sja_regs.specs.declared.interrupts.Interrupts.{Interrupts}
 use Rattle.sja_regs.specs.declared.registers.Registers.{Registers}

@@ -1,37 +1,38 @@
 -- A replay after a bit.
 use Rattle.std.proofs.Common.{◌≡◌, ◌≢◌, ◌||◌, ℕ, ◌+◌, ◌<◌, ◌≤◌, ◌^◌, false, Ok, Err, Option, None, List, [], ◌∷◌}
 use Rattle.std.proofs.Common.{◌++◌, refl, sym, ap, ◌∙◌, subst, arith}
-use Rattle.can_bits.specs.declared.level.Level.{Level}
-use Rattle.can_node.specs.declared.bit_events.BitEvents.{BitEvents}
+use Rattle.can_levels.specs.declared.level.Level.{Level}
+use Rattle.can_node_rules.specs.declared.bit_events.BitEvents.{BitEvents}
 use Rattle.can_node.specs.declared.node.Node.{Node}
-use Rattle.can_node.specs.Stands.{StandsAt, DrivesNext, Samples, closed_by, entries_of}
-use Rattle.sja_link.specs.NodeWords.{NodeEntry, NodeTook, none_yet, counted}
-use Rattle.sja_link.specs.declared.entry.Entry.{Entry}
-use Rattle.sja_link.specs.declared.entry.Entry.TheVariants.{Bit}
-use Rattle.sja_link.specs.Free.{IsFree}
-use Rattle.sja_link.specs.Places.{JournalPlace, place_of}
-use Rattle.sja_link.specs.Records.{record_of}
-use Rattle.sja_link.proofs.JournalEntries.Entering.{place_push, record_push}
-use Rattle.sja_replay.specs.declared.fate.Fate.{Fate}
-use Rattle.sja_replay.specs.declared.happening.Happening.{Happening}
+use Rattle.can_node.specs.Stands.{StandsAt, DrivesNext, Samples}
+use Rattle.can_node_rules.specs.Outcomes.{closed_by, entries_of}
+use Rattle.sja_journal.specs.NodeWords.{NodeEntry, NodeTook, none_yet, counted}
+use Rattle.sja_journal.specs.declared.entry.Entry.{Entry}
+use Rattle.sja_journal.specs.declared.entry.Entry.TheVariants.{Bit}
+use Rattle.sja_journal.specs.Free.{IsFree}
+use Rattle.sja_journal.specs.Places.{JournalPlace, place_of}
+use Rattle.sja_journal.specs.Records.{record_of}
+use Rattle.sja_journal.proofs.JournalEntries.Entering.{place_push, record_push}
+use Rattle.sja_replay.specs.declared.reception.Reception.{Reception}
+use Rattle.sja_replay.specs.declared.bit_event.BitEvent.{BitEvent}
 use Rattle.sja_replay.specs.declared.replay.Replay.{Replay}
 use Rattle.sja_replay.specs.declared.view.View.{View}
 use Rattle.sja_replay.specs.Closing.{Closes}
 use Rattle.sja_replay.specs.Happened.{IsUntold}
 use Rattle.sja_replay.specs.Happened.IsUntold.{misdriven, misfits}
-use Rattle.sja_replay.specs.Happening.{Brings, bit_of}
+use Rattle.sja_replay.specs.BitEvent.{Brings, bit_of}
 use Rattle.sja_replay.specs.declared.misfit.Misfit.{Misfit}
 use Rattle.sja_replay.specs.Inside.Walking.{HasLooked, IsClosed, IsBrought, ClosesNext}
 use Rattle.sja_replay.specs.Replaying.{with_ahead, left_of, IsAt}
 use Rattle.sja_replay.specs.Taking.{last_part}
 use Rattle.sja_replay.specs.Viewing.{Shows}
-use Rattle.can_node.proofs.OneCut.SameCuts.{drives_same}
+use Rattle.can_node_rules.proofs.OneCut.SameCuts.{drives_same}
 use Rattle.sja_replay.proofs.BitTaken.Closings.{brought_behind, bit_told, off_told}
 use Rattle.sja_replay.proofs.Knowledge.Places.{ends_push, free_on}
 
 -- what the bit brought
-abbrev pub happening : Replay → Level → Level → View → BitEvents → View → Option Fate → Happening
-happening r driven seen before e after fate = record {
+abbrev pub bit_event : Replay → Level → Level → View → BitEvents → View → Option Reception → BitEvent
+bit_event r driven seen before e after reception = record {
   bit = r.bits;
   driven = driven;
   seen = seen;
@@ -39,13 +40,13 @@ happening r driven seen before e after fate = record {
   before = before;
   events = e;
   after = after;
-  fate = fate;
+  reception = reception;
 }
 
 pub brings : (r : Replay) (node : Node) (j : List Entry) (driven seen : Level) (before : View) (e : BitEvents)
-    (after : View) (fate : Option Fate) → IsAt r j → DrivesNext r.node driven → Samples r.node node seen e →
-    Shows r.node before → Shows node after → Brings j driven seen (happening r driven seen before e after fate)
-brings r node j driven seen before e after fate h drives samples shows showed =
+    (after : View) (reception : Option Reception) → IsAt r j → DrivesNext r.node driven → Samples r.node node seen e →
+    Shows r.node before → Shows node after → Brings j driven seen (bit_event r driven seen before e after reception)
+brings r node j driven seen before e after reception h drives samples shows showed =
     let x = drives (record_of j) h.found h.stands in
     let leads = samples (record_of j) h.found h.stands driven x in record {
       found = h.found;
@@ -68,15 +69,15 @@ pub free_bit : (r : Replay) (j : List Entry) (driven seen : Level) → IsAt r j 
 free_bit r j driven seen h = free_on j (Bit driven seen) r.free r.free refl refl h.free
 
 -- the replay has come through the bit and what it brought; mid is the replay after the bit alone
-bit_at : (r mid new : Replay) (j : List Entry) (driven seen : Level) (e : BitEvents) (fate : Option Fate) →
+bit_at : (r mid new : Replay) (j : List Entry) (driven seen : Level) (e : BitEvents) (reception : Option Reception) →
     IsAt r j → DrivesNext r.node driven → Samples r.node mid.node seen e →
-    (k : IsClosed mid new (last_part (j ++ Bit driven seen ∷ [])) e fate) → mid.off ≡ r.off →
+    (k : IsClosed mid new (last_part (j ++ Bit driven seen ∷ [])) e reception) → mid.off ≡ r.off →
     mid.bits ≡ r.bits + 1 → mid.aborted ≡ false → IsAt new ((j ++ Bit driven seen ∷ []) ++ k.brought)
-bit_at r mid new j driven seen e fate h drives samples k off bits aborted =
+bit_at r mid new j driven seen e reception h drives samples k off bits aborted =
     let i : List Entry = j ++ Bit driven seen ∷ [] in
     let leads = samples (record_of j) h.found h.stands driven (drives (record_of j) h.found h.stands) in
     let more = closed_by (counted none_yet (record_of j ++ NodeTook (bit_of driven seen) ∷ [])) leads.step in
-    let b = brought_behind i (last_part i) e (left_of mid) fate k.brought (left_of new) k.closes in
+    let b = brought_behind i (last_part i) e (left_of mid) reception k.brought (left_of new) k.closes in
     let place = b.place
     ∙ ap (λ (p : JournalPlace). record p { off = e.went_off || p.off }) (place_push j (Bit driven seen)) in
     let P : List NodeEntry → Type 0 = λ l. StandsAt new.node l (h.found ++ more) in
@@ -129,22 +130,22 @@ looked_mid r mid j k h none = k.entries ∙ h.looked (sym k.ahead ∙ none)
 
 -- a bit that is told
 pub told_bit : (r mid new : Replay) (j : List Entry) (driven seen x : Level) (before : View) (e : BitEvents)
-    (after : View) (fate : Option Fate) → IsAt r j → DrivesNext r.node x → x ≡ driven →
-    Samples r.node mid.node seen e → Shows r.node before → Shows mid.node after → ClosesNext mid new e (Ok fate) →
-    HasBit r mid → IsBrought r new j driven seen (happening r driven seen before e after fate)
-told_bit r mid new j driven seen x before e after fate h drove is samples shows showed closes k =
+    (after : View) (reception : Option Reception) → IsAt r j → DrivesNext r.node x → x ≡ driven →
+    Samples r.node mid.node seen e → Shows r.node before → Shows mid.node after → ClosesNext mid new e (Ok reception) →
+    HasBit r mid → IsBrought r new j driven seen (bit_event r driven seen before e after reception)
+told_bit r mid new j driven seen x before e after reception h drove is samples shows showed closes k =
     let D : Level → Type 0 = λ y. DrivesNext r.node y in
     let drives = subst D is drove in
     let i : List Entry = j ++ Bit driven seen ∷ [] in
     let closed = closes (last_part i) (free_mid r mid j driven seen k h) (looked_mid r mid j k h) in
-    let P : List Entry → Type 0 = λ l. Closes (last_part i) e l fate closed.brought (left_of new) in
+    let P : List Entry → Type 0 = λ l. Closes (last_part i) e l reception closed.brought (left_of new) in
     let few : (place_of j).bits + 1 < 2 ^ 32 =
     (let a = h.bits in let b = k.bits in let m = k.few in omega (arith, a, b, m)) in record {
       few = few;
-      brings = brings r mid.node j driven seen before e after fate h drives samples shows showed;
+      brings = brings r mid.node j driven seen before e after reception h drives samples shows showed;
       brought = closed.brought;
       closes = subst P (left_same r mid k) closed.closes;
-      at = bit_at r mid new j driven seen e fate h drives samples closed k.off k.bits k.aborted;
+      at = bit_at r mid new j driven seen e reception h drives samples closed k.off k.bits k.aborted;
     }
 
 -- ---- why a bit isn't told
@@ -165,8 +166,8 @@ untold_bit r mid new j driven seen x before e after misfit h drove is samples sh
     let D : Level → Type 0 = λ y. DrivesNext r.node y in
     let i : List Entry = j ++ Bit driven seen ∷ [] in
     let never = closes (last_part i) (free_mid r mid j driven seen k h) (looked_mid r mid j k h) in
-    let P : List Entry → Type 0 = λ l. (fate : Option Fate) (brought left : List Entry) →
-    Closes (last_part i) e l fate brought left → ⊥ in
-    misfits (happening r driven seen before e after None)
+    let P : List Entry → Type 0 = λ l. (reception : Option Reception) (brought left : List Entry) →
+    Closes (last_part i) e l reception brought left → ⊥ in
+    misfits (bit_event r driven seen before e after None)
     (brings r mid.node j driven seen before e after None h (subst D is drove) samples shows showed)
     (subst P (left_same r mid k) never)

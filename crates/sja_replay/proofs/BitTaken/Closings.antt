@@ -2,16 +2,16 @@
 use Rattle.std.proofs.Common.{◌≡◌, ◌||◌, ℕ, Bool, true, false, Option, Some, None, List, [], ◌∷◌, ◌++◌}
 use Rattle.std.proofs.Common.{refl, sym, ap, ◌∙◌, subst, append-nil, append_assoc, if◌then◌else◌}
 use Rattle.can_frame.specs.Frame.{FrameValue}
-use Rattle.can_node.specs.declared.bit_events.BitEvents.{BitEvents}
-use Rattle.can_node.specs.Stands.{entries_of}
-use Rattle.sja_link.specs.NodeWords.{NodeBit, NodeEntry, NodeTook, NodeWentOff}
-use Rattle.sja_link.specs.declared.entry.Entry.{Entry}
-use Rattle.sja_link.specs.declared.entry.Entry.TheVariants.{Bit, Up as Item, Abort, Stored, Overrun, Off}
-use Rattle.sja_link.specs.Places.{JournalPlace, place_of, past}
-use Rattle.sja_link.specs.Records.{told, record_of}
-use Rattle.sja_link.proofs.JournalEntries.Entering.{place_push, record_push}
-use Rattle.sja_replay.specs.declared.fate.Fate.{Fate}
-use Rattle.sja_replay.specs.Closing.{Judges, HasFate, Closes, off_if}
+use Rattle.can_node_rules.specs.declared.bit_events.BitEvents.{BitEvents}
+use Rattle.can_node_rules.specs.Outcomes.{entries_of}
+use Rattle.sja_journal.specs.NodeWords.{NodeBit, NodeEntry, NodeTook, NodeWentOff}
+use Rattle.sja_journal.specs.declared.entry.Entry.{Entry}
+use Rattle.sja_journal.specs.declared.entry.Entry.TheVariants.{Bit, Up as Item, Abort, Stored, Overrun, Off}
+use Rattle.sja_journal.specs.Places.{JournalPlace, place_of, past}
+use Rattle.sja_journal.specs.Records.{told, record_of}
+use Rattle.sja_journal.proofs.JournalEntries.Entering.{place_push, record_push}
+use Rattle.sja_replay.specs.declared.reception.Reception.{Reception}
+use Rattle.sja_replay.specs.Closing.{Judges, HasReception, Closes, off_if}
 use Rattle.sja_replay.specs.Taking.{is_abort, ends_in_abort, last_part}
 use Rattle.sja_replay.proofs.Knowledge.Places.{ends_push, last_part_on}
 
@@ -80,19 +80,21 @@ pub data IsVerdict : List Entry → Type 0 where
 is_verdict : (l m : List Entry) → l ≡ m → IsVerdict m → IsVerdict l
 is_verdict l m e h = subst IsVerdict (sym e) h
 
-judged : (p rest : List Entry) (fate : Fate) (verdict : List Entry) → Judges p rest fate verdict → IsVerdict verdict
-judged p (Stored m ∷ more) fate verdict h = is_verdict verdict (Stored m ∷ []) h.1 (stored m)
-judged p (Overrun m ∷ more) fate verdict h = is_verdict verdict (Overrun m ∷ []) h.1 (overrun m)
-judged p [] fate verdict h = is_verdict verdict [] h.1 none
-judged p (Bit driven seen ∷ more) fate verdict h = is_verdict verdict [] h.1 none
-judged p (Item u ∷ more) fate verdict h = is_verdict verdict [] h.1 none
-judged p (Abort ∷ more) fate verdict h = is_verdict verdict [] h.1 none
-judged p (Off ∷ more) fate verdict h = is_verdict verdict [] h.1 none
+judged : (p rest : List Entry) (reception : Reception) (verdict : List Entry) → Judges p rest reception verdict →
+    IsVerdict verdict
+judged p (Stored m ∷ more) reception verdict h = is_verdict verdict (Stored m ∷ []) h.1 (stored m)
+judged p (Overrun m ∷ more) reception verdict h = is_verdict verdict (Overrun m ∷ []) h.1 (overrun m)
+judged p [] reception verdict h = is_verdict verdict [] h.1 none
+judged p (Bit driven seen ∷ more) reception verdict h = is_verdict verdict [] h.1 none
+judged p (Item u ∷ more) reception verdict h = is_verdict verdict [] h.1 none
+judged p (Abort ∷ more) reception verdict h = is_verdict verdict [] h.1 none
+judged p (Off ∷ more) reception verdict h = is_verdict verdict [] h.1 none
 
-pub verdict_of : (p rest : List Entry) (frame : Option FrameValue) (fate : Option Fate) (verdict : List Entry) →
-    HasFate p frame rest fate verdict → IsVerdict verdict
-verdict_of p rest None fate verdict h = is_verdict verdict [] h.1 none
-verdict_of p rest (Some f) fate verdict h = judged p rest h.0 verdict h.2
+pub verdict_of : (p rest : List Entry) (frame : Option FrameValue) (reception : Option Reception)
+    (verdict : List Entry) →
+    HasReception p frame rest reception verdict → IsVerdict verdict
+verdict_of p rest None reception verdict h = is_verdict verdict [] h.1 none
+verdict_of p rest (Some f) reception verdict h = judged p rest h.0 verdict h.2
 
 verdict_behind : (j verdict : List Entry) → IsVerdict verdict → IsBehind j verdict false
 verdict_behind j verdict none = nothing_behind j
@@ -104,12 +106,12 @@ off_behind j true = one_behind j Off true refl refl refl
 off_behind j false = nothing_behind j
 
 -- what a bit brought
-pub brought_behind : (j p : List Entry) (e : BitEvents) (rest : List Entry) (fate : Option Fate)
-    (brought left : List Entry) → Closes p e rest fate brought left → IsBehind j brought e.went_off
-brought_behind j p e rest fate brought left h =
+pub brought_behind : (j p : List Entry) (e : BitEvents) (rest : List Entry) (reception : Option Reception)
+    (brought left : List Entry) → Closes p e rest reception brought left → IsBehind j brought e.went_off
+brought_behind j p e rest reception brought left h =
     let P : List Entry → Type 0 = λ l. IsBehind j l e.went_off in
     subst P (sym h.are) (both_behind j h.verdict (off_if e.went_off) e.went_off
-    (verdict_behind j h.verdict (verdict_of p rest e.received fate h.verdict h.has))
+    (verdict_behind j h.verdict (verdict_of p rest e.received reception h.verdict h.has))
     (off_behind (j ++ h.verdict) e.went_off))
 
 -- ---- the node's record with a bit

@@ -1,27 +1,28 @@
 -- A replay goes on past a bit of a frame that its node receives, of which another reader takes the level.
 use Rattle.std.proofs.Common.{◌≡◌, ◌+◌, ◌<◌, ◌^◌, false, Some, List, refl, ap, ◌∙◌, subst, sym, arith}
-use Rattle.can_bits.specs.declared.level.Level.{Level}
-use Rattle.can_bits.specs.declared.level.Level.TheVariants.{Recessive}
-use Rattle.can_bits.specs.declared.segment.Segment.{Segment}
+use Rattle.can_levels.specs.declared.level.Level.{Level}
+use Rattle.can_levels.specs.declared.level.Level.TheVariants.{Recessive}
+use Rattle.can_levels.specs.declared.segment.Segment.{Segment}
 use Rattle.can_bits.specs.declared.shift.Shift.{Shift}
 use Rattle.can_bits.specs.Sending.{TakesInside}
 use Rattle.can_node.specs.declared.node.Node.{Node}
-use Rattle.can_node.specs.declared.role.Role.{Role}
-use Rattle.can_node.specs.declared.role.Role.TheVariants.{Receiver}
+use Rattle.can_node_rules.specs.declared.role.Role.{Role}
+use Rattle.can_node_rules.specs.declared.role.Role.TheVariants.{Receiver}
 use Rattle.can_node.specs.declared.stage.Stage.{Stage}
 use Rattle.can_node.specs.declared.stage.Stage.TheVariants.{InFrame}
-use Rattle.can_node.specs.declared.phase.Phase.TheVariants.{Frame}
-use Rattle.can_node.specs.Context.{ContextValue, is_transmitter}
-use Rattle.can_node.specs.NextBit.{now_in, open_bits}
+use Rattle.can_node_rules.specs.declared.phase.Phase.TheVariants.{Frame}
+use Rattle.can_node_rules.specs.Context.{ContextValue, is_transmitter}
+use Rattle.can_node_rules.specs.NextBit.{now_in, open_bits}
 use Rattle.can_node.specs.NextField.{ShowsSegment}
-use Rattle.can_node.specs.Inside.Stages.{At}
-use Rattle.can_node.specs.Stands.{DrivesNext, Samples, ShowsSame, phase_of_stage, is_receiving, nothing}
+use Rattle.can_node.specs.Stages.{At}
+use Rattle.can_node.specs.Stands.{DrivesNext, Samples, ShowsSame, phase_of_stage, is_receiving}
+use Rattle.can_node_rules.specs.Outcomes.{nothing}
 use Rattle.can_node.specs.Together.{kept_level, reading_as}
 use Rattle.can_node.proofs.Machine.Segments.{frame_segment}
 use Rattle.can_node.proofs.Machine.Shown.{phase_shown}
 use Rattle.can_node.proofs.Machine.Together.{reads_one, reads_same}
-use Rattle.sja_link.specs.declared.entry.Entry.{Entry}
-use Rattle.sja_link.specs.declared.entry.Entry.TheVariants.{Bit}
+use Rattle.sja_journal.specs.declared.entry.Entry.{Entry}
+use Rattle.sja_journal.specs.declared.entry.Entry.TheVariants.{Bit}
 use Rattle.sja_replay.specs.declared.replay.Replay.{Replay}
 use Rattle.sja_replay.specs.Inside.Walking.{IsTakenFrom}
 use Rattle.sja_replay.specs.Reading.{Receives, Hears, SaysSegment, reading, heard}

@@ -2,22 +2,23 @@
 use Rattle.std.proofs.Common.{◌≡◌, ℕ, ◌+◌, ◌<◌, ◌≤◌, ◌^◌, Bool, false, Option, Some, None, List, []}
 use Rattle.std.proofs.Common.{refl, sym, ap, ◌∙◌, subst, append-nil}
 use Rattle.std.specs.Coded.{le_prop}
-use Rattle.can_bits.specs.declared.level.Level.{Level}
-use Rattle.can_bits.specs.declared.segment.Segment.{Segment}
-use Rattle.can_node.specs.declared.bit_events.BitEvents.{BitEvents}
-use Rattle.can_node.specs.declared.counters.Counters.{Counters}
+use Rattle.can_levels.specs.declared.level.Level.{Level}
+use Rattle.can_levels.specs.declared.segment.Segment.{Segment}
+use Rattle.can_node_rules.specs.declared.bit_events.BitEvents.{BitEvents}
+use Rattle.can_node_rules.specs.declared.counters.Counters.{Counters}
 use Rattle.can_node.specs.declared.node.Node.{Node}
-use Rattle.can_node.specs.declared.request.Request.{Request}
-use Rattle.can_node.specs.Context.{ContextValue, is_transmitter}
+use Rattle.can_node_rules.specs.declared.request.Request.{Request}
+use Rattle.can_node_rules.specs.Context.{ContextValue, is_transmitter}
 use Rattle.can_node.specs.NextField.{ShowsSegment}
-use Rattle.can_node.specs.Stands.{StandsAt, DrivesNext, Samples, ShowsSame, nothing, is_receiving}
+use Rattle.can_node.specs.Stands.{StandsAt, DrivesNext, Samples, ShowsSame, is_receiving}
+use Rattle.can_node_rules.specs.Outcomes.{nothing}
 use Rattle.can_node.proofs.Machine.Shown.{phase_shown}
-use Rattle.sja_link.specs.NodeWords.{NodeEntry, FinishedPiece}
-use Rattle.sja_link.specs.declared.entry.Entry.{Entry}
-use Rattle.sja_link.specs.declared.entry.Entry.TheVariants.{Bit}
-use Rattle.sja_link.specs.Free.{IsFree}
-use Rattle.sja_link.specs.Records.{record_of}
-use Rattle.sja_replay.specs.declared.happening.Happening.{Happening}
+use Rattle.sja_journal.specs.NodeWords.{NodeEntry, FinishedPiece}
+use Rattle.sja_journal.specs.declared.entry.Entry.{Entry}
+use Rattle.sja_journal.specs.declared.entry.Entry.TheVariants.{Bit}
+use Rattle.sja_journal.specs.Free.{IsFree}
+use Rattle.sja_journal.specs.Records.{record_of}
+use Rattle.sja_replay.specs.declared.bit_event.BitEvent.{BitEvent}
 use Rattle.sja_replay.specs.declared.replay.Replay.{Replay}
 use Rattle.sja_replay.specs.declared.short_bit.ShortBit.{ShortBit}
 use Rattle.sja_replay.specs.declared.view.View.{View}
@@ -25,7 +26,7 @@ use Rattle.sja_replay.specs.Inside.Walking.{IsTakenFrom, IsBrought, IsClosed}
 use Rattle.sja_replay.specs.Replaying.{IsAt}
 use Rattle.sja_replay.specs.Short.{IsNoStart, IsInShort, LooksAt, PassesBit}
 use Rattle.sja_replay.specs.Viewing.{Shows}
-use Rattle.sja_replay.proofs.BitTaken.Bits.{happening, has_bit, told_bit}
+use Rattle.sja_replay.proofs.BitTaken.Bits.{bit_event, has_bit, told_bit}
 use Rattle.sja_replay.proofs.BitTaken.Walks.{past_none, goes_on, goes_bit, tells_bit}
 
 -- ---- what the node shows before the bit and after it
@@ -88,10 +89,10 @@ shows_after old new i found driven seen q s was l same segment = λ entries more
     }
 
 -- so it is a bit in short
-pub in_short : (q : ShortBit) (h : Happening) (held : Option Request) (receiving : Bool) → h.driven ≡ q.driven →
+pub in_short : (q : ShortBit) (h : BitEvent) (held : Option Request) (receiving : Bool) → h.driven ≡ q.driven →
     h.seen ≡ q.seen → h.aborted ≡ false → h.before ≡ view_with q held → h.events ≡ nothing receiving →
-    h.after.phase ≡ q.phase → h.after.counters ≡ q.counters → h.fate ≡ None → IsNoStart q → IsInShort h q
-in_short q h held receiving driven seen aborted before told phase counters fate quiet = record {
+    h.after.phase ≡ q.phase → h.after.counters ≡ q.counters → h.reception ≡ None → IsNoStart q → IsInShort h q
+in_short q h held receiving driven seen aborted before told phase counters reception quiet = record {
   driven = driven;
   seen = seen;
   aborted = aborted;
@@ -103,7 +104,7 @@ in_short q h held receiving driven seen aborted before told phase counters fate 
   told = told ∙ ap nothing (sym (ap (λ (e : BitEvents). e.receiving) told));
   phase_stays = phase;
   counters_stay = counters;
-  fate = fate;
+  reception = reception;
   no_start = quiet;
 }
 
@@ -144,7 +145,7 @@ passed_bit old mid new driven seen x q s took j at ahead unmarked drives is l sa
     let to : Replay = record from { node = mid.node; bits = mid.bits; aborted = false } in
     let before : View = view_before old.node q in
     let after : View = view_after mid.node q s in
-    let h : Happening = happening from driven seen before e after None in
+    let h : BitEvent = bit_event from driven seen before e after None in
     let taken : IsTakenFrom old from (Some (Bit driven seen)) = record {
       same = record { node = refl; bits = refl; aborted = refl };
       off = refl;

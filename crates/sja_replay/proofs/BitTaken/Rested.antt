@@ -2,17 +2,17 @@
 use Rattle.std.proofs.Common.{◌≡◌, ℕ, zero, suc, ◌+◌, ◌<◌, ◌≤◌, Some, None, List, [], ◌∷◌, drop, refl, sym, ap, ◌∙◌}
 use Rattle.std.proofs.Common.{arith}
 use Rattle.std.specs.Coded.{le_prop}
-use Rattle.can_bits.specs.declared.level.Level.TheVariants.{Dominant, Recessive}
+use Rattle.can_levels.specs.declared.level.Level.TheVariants.{Dominant, Recessive}
 use Rattle.sja_replay.proofs.Knowledge.NodeRests.{resting_bit, same_shown}
-use Rattle.sja_link.specs.declared.entry.Entry.{Entry}
-use Rattle.sja_link.specs.declared.entry.Entry.TheVariants.{Bit, Up as Item, Abort, Stored, Overrun, Off}
-use Rattle.sja_link.specs.Records.{record_of}
-use Rattle.sja_link.specs.RestBits.{rest_bit, rest_before}
+use Rattle.sja_journal.specs.declared.entry.Entry.{Entry}
+use Rattle.sja_journal.specs.declared.entry.Entry.TheVariants.{Bit, Up as Item, Abort, Stored, Overrun, Off}
+use Rattle.sja_journal.specs.Records.{record_of}
+use Rattle.sja_journal.specs.RestBits.{rest_bit, rest_before}
 use Rattle.sja_replay.specs.declared.replay.Replay.{Replay}
 use Rattle.sja_replay.specs.declared.short_bit.ShortBit.{ShortBit}
 use Rattle.sja_replay.specs.Inside.Walking.{IsTakenFrom}
 use Rattle.sja_replay.specs.Replaying.{with_ahead, IsAt}
-use Rattle.sja_replay.specs.Resting.{RestsFor, rested}
+use Rattle.sja_replay.specs.ReplayRest.{RestsFor, rested}
 use Rattle.sja_replay.specs.Short.{LooksAt, PassesBit}
 use Rattle.sja_replay.proofs.BitTaken.Passed.{HasSampled, passed_bit}
 

@@ -1,18 +1,17 @@
 -- A replay goes on past bits of which nothing is told.
 use Rattle.std.proofs.Common.{◌≡◌, ℕ, zero, suc, ◌+◌, ◌<◌, ◌≤◌, true, Option, Some, None, IfSome, List, [], ◌∷◌, ◌++◌}
-use Rattle.std.proofs.Common.{length, drop}
-use Rattle.std.proofs.Common.{refl, sym, ap, ◌∙◌, subst, arith, length-append, append_assoc}
+use Rattle.std.proofs.Common.{length}
+use Rattle.std.proofs.Common.{sym, ap, subst, arith, length-append, append_assoc}
 use Rattle.std.specs.Prelude.{is_some}
-use Rattle.std.proofs.lemmas.List.{length-drop}
-use Rattle.sja_link.specs.declared.entry.Entry.{Entry}
-use Rattle.sja_replay.specs.declared.happening.Happening.{Happening}
+use Rattle.sja_journal.specs.declared.entry.Entry.{Entry}
+use Rattle.sja_replay.specs.declared.bit_event.BitEvent.{BitEvent}
 use Rattle.sja_replay.specs.declared.replay.Replay.{Replay}
 use Rattle.sja_replay.specs.declared.short_bit.ShortBit.{ShortBit}
 use Rattle.sja_replay.specs.Happened.{Happened}
 use Rattle.sja_replay.specs.Replaying.{with_ahead, left_of, IsAt, GoesOn}
-use Rattle.sja_replay.specs.Resting.{rested}
+use Rattle.sja_replay.specs.ReplayRest.{rested}
 use Rattle.sja_replay.specs.Short.{PassesBit}
-use Rattle.sja_replay.specs.Silent.{AreShort, SilentOn, PassesSilently}
+use Rattle.sja_replay.specs.Silent.{AreShort, PassesSilently}
 use Rattle.sja_replay.proofs.BitTaken.Walks.{past_none, goes_on}
 
 -- ---- how many entries are left
@@ -25,28 +24,20 @@ shorter old new e ahead left =
     let m = ap (λ a. length (with_ahead a old.entries)) ahead in
     omega (arith, n, m)
 
--- and no more past bits at rest
-pub rest_shorter : (r : Replay) (n : ℕ) → length (left_of (rested n r)) ≤ length (left_of r)
-rest_shorter r n = by r.ahead
-  where
-    by : (a : Option Entry) → length (with_ahead a (drop n r.entries)) ≤ length (with_ahead a r.entries)
-    by None = let m = length-drop n r.entries in omega (arith, m)
-    by (Some e) = let m = length-drop n r.entries in omega (arith, m)
-
 -- ---- one behind the other
 
-short_both : (hs ks : List Happening) → AreShort hs → AreShort ks → AreShort (hs ++ ks)
+short_both : (hs ks : List BitEvent) → AreShort hs → AreShort ks → AreShort (hs ++ ks)
 short_both [] ks short more = more
 short_both (h ∷ hs) ks short more = (short.0, short_both hs ks short.1 more)
 
-pub goes_both : (a b c : Replay) (before : List Entry) (hs ks : List Happening) (g : GoesOn a b before hs) →
+pub goes_both : (a b c : Replay) (before : List Entry) (hs ks : List BitEvent) (g : GoesOn a b before hs) →
     GoesOn b c g.now ks → GoesOn a c before (hs ++ ks)
 goes_both a b c before hs ks g k = record {
   now = k.now;
   at = k.at;
   fewer = let n = length-append hs ks in let few = g.fewer in let fewer = k.fewer in omega (arith, n, few, fewer);
   leads = λ more x.
-      let P : List Happening → Type 0 = λ l. Happened before (left_of a) l in
+      let P : List BitEvent → Type 0 = λ l. Happened before (left_of a) l in
       subst P (sym (append_assoc hs ks more)) (g.leads (ks ++ more) (k.leads more x));
 }
 

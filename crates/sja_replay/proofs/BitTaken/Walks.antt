@@ -1,14 +1,14 @@
 -- A replay from entry to entry.
 use Rattle.std.proofs.Common.{◌≡◌, ℕ, true, false, Option, Some, None, List, [], ◌∷◌, ◌++◌, refl, sym, ap, ◌∙◌}
 use Rattle.std.proofs.Common.{subst, IfSome, IfNone, length, arith, length-append, append-nil, append_assoc}
-use Rattle.can_bits.specs.declared.level.Level.{Level}
+use Rattle.can_levels.specs.declared.level.Level.{Level}
 use Rattle.can_node.specs.declared.node.Node.{Node}
 use Rattle.can_node.specs.Stands.{StandsAt}
-use Rattle.sja_link.specs.declared.entry.Entry.{Entry}
-use Rattle.sja_link.specs.declared.entry.Entry.TheVariants.{Bit}
-use Rattle.sja_link.specs.Free.{IsFree}
-use Rattle.sja_link.specs.Records.{record_of}
-use Rattle.sja_replay.specs.declared.happening.Happening.{Happening}
+use Rattle.sja_journal.specs.declared.entry.Entry.{Entry}
+use Rattle.sja_journal.specs.declared.entry.Entry.TheVariants.{Bit}
+use Rattle.sja_journal.specs.Free.{IsFree}
+use Rattle.sja_journal.specs.Records.{record_of}
+use Rattle.sja_replay.specs.declared.bit_event.BitEvent.{BitEvent}
 use Rattle.sja_replay.specs.declared.replay.Replay.{Replay}
 use Rattle.sja_replay.specs.Happened.{IsUntold, Happened}
 use Rattle.sja_replay.specs.Happened.Happened.{over, between, bit, refused, untold}
@@ -48,8 +48,8 @@ took_none old new result j t is h =
 
 -- ---- on from one entry to the next
 
--- with entries that are taken whatever happenings come behind them come behind those that were before
-behind_taken : (j es left : List Entry) (more : List Happening) → AreTaken j es → Happened (j ++ es) left more →
+-- with entries that are taken whatever bit events come behind them come behind those that were before
+behind_taken : (j es left : List Entry) (more : List BitEvent) → AreTaken j es → Happened (j ++ es) left more →
     Happened j (es ++ left) more
 behind_taken j [] left more t x =
     let P : List Entry → Type 0 = λ l. Happened l left more in subst P (append-nil j) x
@@ -97,7 +97,7 @@ past_more start old mid new j e g t k =
     }
 
 -- a bit
-pub goes_bit : (start old mid new : Replay) (j : List Entry) (driven seen : Level) (h : Happening) →
+pub goes_bit : (start old mid new : Replay) (j : List Entry) (driven seen : Level) (h : BitEvent) →
     GoesOn start old j [] → IsTakenFrom old mid (Some (Bit driven seen)) →
     ((i : List Entry) → IsAt mid i → IsBrought mid new i driven seen h) → GoesOn start new j (h ∷ [])
 goes_bit start old mid new j driven seen h g t brings =
@@ -142,7 +142,7 @@ ends_over start old mid j g t =
 
 -- ---- what a bit comes to
 
-pub brought_on : (start old mid new : Replay) (driven seen : Level) (result : Option Happening) →
+pub brought_on : (start old mid new : Replay) (driven seen : Level) (result : Option BitEvent) →
     ((j : List Entry) → IsAt start j → IsPast start old j) → IsTakenFrom old mid (Some (Bit driven seen)) →
     BringsNext mid new driven seen result →
     IfSome result (λ h. (j : List Entry) → IsAt start j → GoesOn start new j (h ∷ []))
@@ -151,7 +151,7 @@ brought_on start old mid new driven seen (Some h) g t b = λ j at.
     goes_bit start old mid new j driven seen h (goes_on start old j (g j at)) t b
 
 -- the bit itself
-pub tells_bit : (start old mid new : Replay) (j : List Entry) (driven seen : Level) (h : Happening) →
+pub tells_bit : (start old mid new : Replay) (j : List Entry) (driven seen : Level) (h : BitEvent) →
     IsPast start old j → IsTakenFrom old mid (Some (Bit driven seen)) →
     ((i : List Entry) → IsAt mid i → IsBrought mid new i driven seen h) → TellsBit start new j h
 tells_bit start old mid new j driven seen h p t brings =
@@ -170,7 +170,7 @@ tells_bit start old mid new j driven seen h p t brings =
       at = k.at;
     }
 
-pub tells_on : (start old mid new : Replay) (driven seen : Level) (result : Option Happening) →
+pub tells_on : (start old mid new : Replay) (driven seen : Level) (result : Option BitEvent) →
     ((j : List Entry) → IsAt start j → IsPast start old j) → IsTakenFrom old mid (Some (Bit driven seen)) →
     BringsNext mid new driven seen result →
     IfSome result (λ h. (j : List Entry) → IsAt start j → TellsBit start new j h)
@@ -178,7 +178,7 @@ tells_on start old mid new driven seen None g t b = tt
 tells_on start old mid new driven seen (Some h) g t b = λ j at.
     tells_bit start old mid new j driven seen h (g j at) t b
 
-pub untold_on : (start old mid new : Replay) (driven seen : Level) (result : Option Happening) →
+pub untold_on : (start old mid new : Replay) (driven seen : Level) (result : Option BitEvent) →
     ((j : List Entry) → IsAt start j → IsPast start old j) → IsTakenFrom old mid (Some (Bit driven seen)) →
     BringsNext mid new driven seen result →
     IfNone result ((j : List Entry) → IsAt start j → Happened j (left_of start) [])

@@ -1,29 +1,31 @@
 -- A replay after an entry between two bits.
 use Rattle.std.proofs.Common.{◌≡◌, ◌≢◌, ℕ, ◌+◌, ◌≤◌, Bool, true, false, Ok, Err, Option, Some, None, List, [], ◌∷◌}
 use Rattle.std.proofs.Common.{◌++◌, refl, sym, ap, ◌∙◌, subst, arith, append-nil, inl, inr}
-use Rattle.can_node.specs.declared.abort_outcome.AbortOutcome.{AbortOutcome}
-use Rattle.can_node.specs.declared.abort_outcome.AbortOutcome.TheVariants.{Unchanged, Marked, Dropped}
-use Rattle.can_node.specs.declared.config.Config.{Config}
+use Rattle.can_node_rules.specs.declared.abort_outcome.AbortOutcome.{AbortOutcome}
+use Rattle.can_node_rules.specs.declared.abort_outcome.AbortOutcome.TheVariants.{Unchanged, Marked, Dropped}
+use Rattle.can_node_rules.specs.declared.config.Config.{Config}
 use Rattle.can_node.specs.declared.node.Node.{Node}
-use Rattle.can_node.specs.declared.phase.Phase.{Phase}
-use Rattle.can_node.specs.declared.phase.Phase.TheVariants.{Reset}
-use Rattle.can_node.specs.declared.request.Request.{Request}
-use Rattle.can_node.specs.Context.{ContextValue, is_held}
-use Rattle.can_node.specs.Pieces.{Place}
-use Rattle.can_node.specs.Effects.{is_in_progress}
-use Rattle.can_node.specs.NextBit.{now_in}
-use Rattle.can_node.specs.Stands.{StandsAt, Enters as NodeEnters, Requests, Aborts, ShowsPhase, abort_of}
-use Rattle.sja_link.specs.NodeWords.{NodeEntry, NodeStarted, NodeStopped, NodeAsked, NodeAborted, FinishedPiece, IsCut}
-use Rattle.sja_link.specs.declared.up.Up.TheVariants.{Start, Credit, Send, Stop}
-use Rattle.sja_link.specs.declared.entry.Entry.{Entry}
-use Rattle.sja_link.specs.declared.entry.Entry.TheVariants.{Up as Item, Abort}
-use Rattle.sja_link.specs.Free.{credit_in, bytes_in, IsFree}
-use Rattle.sja_link.specs.Places.{place_of, past}
-use Rattle.sja_link.specs.Records.{told, record_of}
+use Rattle.can_node_rules.specs.declared.phase.Phase.{Phase}
+use Rattle.can_node_rules.specs.declared.phase.Phase.TheVariants.{Reset}
+use Rattle.can_node_rules.specs.declared.request.Request.{Request}
+use Rattle.can_node_rules.specs.Context.{ContextValue, is_held}
+use Rattle.can_node_rules.specs.Pieces.{Place}
+use Rattle.can_node_rules.specs.Effects.{is_in_progress}
+use Rattle.can_node_rules.specs.NextBit.{now_in}
+use Rattle.can_node.specs.Stands.{StandsAt, Enters as NodeEnters, Requests, Aborts, ShowsPhase}
+use Rattle.can_node_rules.specs.Outcomes.{abort_of}
+use Rattle.sja_journal.specs.NodeWords.{NodeEntry, NodeStarted, NodeStopped, NodeAsked, NodeAborted, FinishedPiece}
+use Rattle.sja_journal.specs.NodeWords.{IsCut}
+use Rattle.sja_journal.specs.declared.up.Up.TheVariants.{Start, Credit, Send, Stop}
+use Rattle.sja_journal.specs.declared.entry.Entry.{Entry}
+use Rattle.sja_journal.specs.declared.entry.Entry.TheVariants.{Up as Item, Abort}
+use Rattle.sja_journal.specs.Free.{credit_in, bytes_in, IsFree}
+use Rattle.sja_journal.specs.Places.{place_of, past}
+use Rattle.sja_journal.specs.Records.{told, record_of}
 use Rattle.sja_replay.specs.declared.replay.Replay.{Replay}
 use Rattle.sja_replay.specs.Replaying.{IsAt}
 use Rattle.sja_replay.specs.Taking.{is_abort, TakesRequest, IsTaken, last_part}
-use Rattle.can_node.proofs.OneCut.SameCuts.{same_now, same_phase, same_place}
+use Rattle.can_node_rules.proofs.OneCut.SameCuts.{same_now, same_phase, same_place}
 use Rattle.sja_replay.proofs.Knowledge.Places.{at_next, free_on, free_new}
 
 -- no entry is passed, and no bit

@@ -1,34 +1,35 @@
 -- A node at rest, which is in reset, or idle with no request: a recessive bit leaves it as it is.
 use Rattle.std.proofs.Common.{◌≡◌, Bool, true, false, None, List, ◌∷◌, ◌++◌, [], inl, inr, refl, sym, ap, ◌∙◌, subst}
 use Rattle.std.specs.Prelude.{◌⊎◌, if◌then◌else◌, nat_lt}
-use Rattle.can_bits.specs.declared.level.Level.{Level}
-use Rattle.can_bits.specs.declared.level.Level.TheVariants.{Recessive}
+use Rattle.can_levels.specs.declared.level.Level.{Level}
+use Rattle.can_levels.specs.declared.level.Level.TheVariants.{Recessive}
 use Rattle.can_node.specs.declared.node.Node.{Node}
-use Rattle.can_node.specs.declared.phase.Phase.TheVariants.{Intermission, Suspension}
+use Rattle.can_node_rules.specs.declared.phase.Phase.TheVariants.{Intermission, Suspension}
 use Rattle.can_node.specs.declared.stage.Stage.{Stage}
 use Rattle.can_node.specs.declared.stage.Stage.TheVariants.{InReset as StageInReset, Integrating as StageIntegrating}
 use Rattle.can_node.specs.declared.stage.Stage.TheVariants.{BusIdle as StageBusIdle, InFrame as StageInFrame}
 use Rattle.can_node.specs.declared.stage.Stage.TheVariants.{LastEofBit as StageLastEofBit, InFlag as StageInFlag}
 use Rattle.can_node.specs.declared.stage.Stage.TheVariants.{InDelimiter as StageInDelimiter}
 use Rattle.can_node.specs.declared.stage.Stage.TheVariants.{InInterframeSpace as StageInInterframeSpace}
-use Rattle.can_node.specs.Bits.{Bit as Levels}
-use Rattle.can_node.specs.Context.{is_held}
-use Rattle.can_node.specs.Pieces.{Place}
-use Rattle.can_node.specs.Counting.{at_bit}
-use Rattle.can_node.specs.Events.{lost_in}
-use Rattle.can_node.specs.Driving.{Drives}
-use Rattle.can_node.specs.NextBit.{now_in, open_bits, rests_in}
-use Rattle.can_node.specs.Inside.Standing.{context_of}
-use Rattle.can_node.specs.Inside.Stages.{At}
-use Rattle.can_node.specs.Stands.{StandsAt, DrivesNext, Samples, ShowsRest, ShowsSame, nothing, is_receiving}
+use Rattle.can_node_rules.specs.Bits.{Bit as Levels}
+use Rattle.can_node_rules.specs.Context.{is_held}
+use Rattle.can_node_rules.specs.Pieces.{Place}
+use Rattle.can_node_rules.specs.Counting.{at_bit}
+use Rattle.can_node_rules.specs.Events.{lost_in}
+use Rattle.can_node_rules.specs.Driving.{Drives}
+use Rattle.can_node_rules.specs.NextBit.{now_in, open_bits, rests_in}
+use Rattle.can_node.specs.Standing.{context_of}
+use Rattle.can_node.specs.Stages.{At}
+use Rattle.can_node.specs.Stands.{StandsAt, DrivesNext, Samples, ShowsRest, ShowsSame, is_receiving}
+use Rattle.can_node_rules.specs.Outcomes.{nothing}
 use Rattle.can_node.specs.Stands.{phase_of_stage}
 use Rattle.can_node.proofs.Machine.Ats.{at_is}
 use Rattle.can_node.proofs.Machine.Quiet.{IsQuiet, quietly}
 use Rattle.can_node.proofs.Machine.QuietOutside.{idle_quietly}
 use Rattle.can_node.proofs.Machine.Shown.{phase_shown}
-use Rattle.can_node.proofs.Machine.Told.{drives_once}
-use Rattle.can_node.specs.FinishedPieces.{FinishedPiece}
-use Rattle.can_node.specs.Record.{RecordEntry}
+use Rattle.can_node_rules.proofs.OneCut.DrivenLevels.{drives_once}
+use Rattle.can_node_rules.specs.FinishedPieces.{FinishedPiece}
+use Rattle.can_node_rules.specs.Record.{RecordEntry}
 
 -- ---- where it stands
 

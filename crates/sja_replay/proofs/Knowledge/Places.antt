@@ -1,17 +1,17 @@
 -- What a replay knows of a journal, with an entry more.
 use Rattle.std.proofs.Common.{◌≡◌, ℕ, ◌+◌, None, List, [], ◌∷◌, ◌++◌, refl, sym, ap, ◌∙◌, subst, arith}
-use Rattle.can_node.specs.declared.config.Config.{Config}
+use Rattle.can_node_rules.specs.declared.config.Config.{Config}
 use Rattle.can_node.specs.Stands.{StandsAt}
-use Rattle.sja_link.specs.NodeWords.{NodeEntry, FinishedPiece}
-use Rattle.sja_link.specs.declared.up.Up.TheVariants.{Start}
-use Rattle.sja_link.specs.declared.entry.Entry.{Entry}
-use Rattle.sja_link.specs.declared.entry.Entry.TheVariants.{Up as Item}
-use Rattle.sja_link.specs.Free.{credit_in, bytes_in, IsFree}
-use Rattle.sja_link.specs.Parts.{entry_at, part}
-use Rattle.sja_link.specs.Places.{JournalPlace, place_of, past}
-use Rattle.sja_link.specs.Records.{told, record_of}
-use Rattle.sja_link.proofs.JournalEntries.Entering.{place_push, part_here, of_part_later, record_push}
-use Rattle.sja_link.proofs.Ledger.Freeing.{free_push}
+use Rattle.sja_journal.specs.NodeWords.{NodeEntry, FinishedPiece}
+use Rattle.sja_journal.specs.declared.up.Up.TheVariants.{Start}
+use Rattle.sja_journal.specs.declared.entry.Entry.{Entry}
+use Rattle.sja_journal.specs.declared.entry.Entry.TheVariants.{Up as Item}
+use Rattle.sja_journal.specs.Free.{credit_in, bytes_in, IsFree}
+use Rattle.sja_journal.specs.Parts.{entry_at, part}
+use Rattle.sja_journal.specs.Places.{JournalPlace, place_of, past}
+use Rattle.sja_journal.specs.Records.{told, record_of}
+use Rattle.sja_journal.proofs.JournalEntries.Entering.{place_push, part_here, of_part_later, record_push}
+use Rattle.sja_journal.proofs.Ledger.Freeing.{free_push}
 use Rattle.sja_replay.specs.declared.replay.Replay.{Replay}
 use Rattle.sja_replay.specs.Replaying.{IsAt}
 use Rattle.sja_replay.specs.Taking.{is_abort, ends_in_abort, last_part}

@@ -1,10 +1,10 @@
 -- What a node shows of its next bit, by the cut of its record: there is such a view.
 use Rattle.std.proofs.Common.{List, refl}
-use Rattle.can_node.specs.Context.{is_transmitter}
-use Rattle.can_node.specs.NextBit.{now_in, phase_in}
-use Rattle.can_node.proofs.OneCut.GoOn.{open_end}
+use Rattle.can_node_rules.specs.Context.{is_transmitter}
+use Rattle.can_node_rules.specs.NextBit.{now_in, phase_in}
+use Rattle.can_node_rules.proofs.OneCut.GoOn.{open_end}
 use Rattle.can_node.proofs.CutRecords.NextSegments.{segment_there}
-use Rattle.sja_link.specs.NodeWords.{NodeEntry, FinishedPiece, IsCut}
+use Rattle.sja_journal.specs.NodeWords.{NodeEntry, FinishedPiece, IsCut}
 use Rattle.sja_replay.specs.declared.view.View.{View}
 use Rattle.sja_replay.specs.Viewing.{IsView}
 

@@ -1,21 +1,22 @@
--- A bit of a journal brings one happening, beside the fate of a frame.
+-- A bit of a journal brings one bit event, beside the reception of a frame.
 use Rattle.std.proofs.Common.{◌≡◌, not, Bool, List, [], ◌∷◌, ◌++◌, refl, sym, ap, ◌∙◌, subst, if◌then◌else◌}
 use Rattle.std.proofs.lemmas.List.{append_cancel_left}
-use Rattle.can_bits.specs.declared.level.Level.{Level}
-use Rattle.can_node.specs.declared.bit_events.BitEvents.{BitEvents}
-use Rattle.can_node.specs.Context.{ContextValue, is_transmitter}
-use Rattle.can_node.specs.Events.{Step, events_of}
-use Rattle.can_node.specs.NextBit.{now_in, open_bits}
-use Rattle.can_node.specs.Stands.{closed_by, entries_of}
-use Rattle.can_node.proofs.OneCut.CutOnce.{cut_once}
-use Rattle.can_node.proofs.CutRecords.BusOff.{went_once}
-use Rattle.can_node.proofs.CutRecords.Events.{events_alike, finish_alike}
-use Rattle.sja_link.specs.NodeWords.{NodeBit, NodeEntry, NodeTook, NodeWentOff, FinishedPiece, IsCut, none_yet, counted}
-use Rattle.sja_link.specs.declared.entry.Entry.{Entry}
-use Rattle.sja_link.specs.Records.{record_of}
-use Rattle.sja_replay.specs.declared.happening.Happening.{Happening}
-use Rattle.sja_replay.specs.Happening.{Brings, bit_of}
-use Rattle.can_node.proofs.OneCut.SameCuts.{same_now, same_place, same_bits}
+use Rattle.can_levels.specs.declared.level.Level.{Level}
+use Rattle.can_node_rules.specs.declared.bit_events.BitEvents.{BitEvents}
+use Rattle.can_node_rules.specs.Context.{ContextValue, is_transmitter}
+use Rattle.can_node_rules.specs.Events.{Step, events_of}
+use Rattle.can_node_rules.specs.NextBit.{now_in, open_bits}
+use Rattle.can_node_rules.specs.Outcomes.{closed_by, entries_of}
+use Rattle.can_node_rules.proofs.OneCut.CutOnce.{cut_once}
+use Rattle.can_node_rules.proofs.CutRecords.BusOff.{went_once}
+use Rattle.can_node_rules.proofs.CutRecords.Events.{events_alike, finish_alike}
+use Rattle.sja_journal.specs.NodeWords.{NodeBit, NodeEntry, NodeTook, NodeWentOff, FinishedPiece, IsCut, none_yet}
+use Rattle.sja_journal.specs.NodeWords.{counted}
+use Rattle.sja_journal.specs.declared.entry.Entry.{Entry}
+use Rattle.sja_journal.specs.Records.{record_of}
+use Rattle.sja_replay.specs.declared.bit_event.BitEvent.{BitEvent}
+use Rattle.sja_replay.specs.BitEvent.{Brings, bit_of}
+use Rattle.can_node_rules.proofs.OneCut.SameCuts.{same_now, same_place, same_bits}
 use Rattle.sja_replay.proofs.Once.Views.{view_once}
 
 -- the role by cuts of two records that are one
@@ -27,8 +28,8 @@ role_same entries again found others h k same =
     not (is_transmitter (now_in h).role) ≡ not (is_transmitter (now_in c).role) in
     subst P same (λ c. ap (λ (o : ContextValue). not (is_transmitter o.role)) (same_now entries found others h c)) k
 
--- all of two happenings but the fate
-pub record AreAlike (h k : Happening) : Type 0 where
+-- all of two bit events but the reception
+pub record AreAlike (h k : BitEvent) : Type 0 where
   pub bit : h.bit ≡ k.bit
   pub driven : h.driven ≡ k.driven
   pub seen : h.seen ≡ k.seen
@@ -47,7 +48,7 @@ pub record Tells (j : List Entry) (driven seen : Level) (e : BitEvents) : Type 0
       (found ++ closed_by (counted none_yet (record_of j ++ NodeTook (bit_of driven seen) ∷ [])) step)
   pub role : e.receiving ≡ not (is_transmitter (now_in with_bit).role)
 
-pub tells : (j : List Entry) (driven seen : Level) (x : Happening) → Brings j driven seen x →
+pub tells : (j : List Entry) (driven seen : Level) (x : BitEvent) → Brings j driven seen x →
     Tells j driven seen x.events
 tells j driven seen x h = record {
   found = h.found;
@@ -104,7 +105,7 @@ module _ (j : List Entry) (driven seen : Level) (e f : BitEvents) (h : Tells j d
       told_by ∙ events_alike h.step k.step (now_in k.cut) k.cut.place (open_bits k.cut) b
       (finish_alike n h.step k.step pieces_same) role ∙ sym k.told
 
-pub brings_once : (j : List Entry) (driven seen : Level) (x y : Happening) → Brings j driven seen x →
+pub brings_once : (j : List Entry) (driven seen : Level) (x y : BitEvent) → Brings j driven seen x →
     Brings j driven seen y → AreAlike x y
 brings_once j driven seen x y h k =
     let r = record_of j in

@@ -1,19 +1,19 @@
 -- By the cut of a record one view is shown.
 use Rattle.std.proofs.Common.{◌≡◌, Option, Some, List, [], ◌∷◌, sym, ap, ◌∙◌, subst}
-use Rattle.can_bits.specs.declared.level.Level.{Level}
-use Rattle.can_bits.specs.declared.segment.Segment.{Segment}
-use Rattle.can_node.specs.Bits.{Bit, seen_of}
-use Rattle.can_node.specs.Context.{ContextValue, is_transmitter}
-use Rattle.can_node.specs.Pieces.{Place}
-use Rattle.can_node.specs.Pieces.Place.{AtReset, AtIntegration, AtIdle, AfterSof}
-use Rattle.can_node.specs.Pieces.Place.{AtLastEofBit, AtFlag, AtDelimiter, AtInterframeSpace}
-use Rattle.can_node.specs.NextBit.{open_bits}
+use Rattle.can_levels.specs.declared.level.Level.{Level}
+use Rattle.can_levels.specs.declared.segment.Segment.{Segment}
+use Rattle.can_node_rules.specs.Bits.{Bit, seen_of}
+use Rattle.can_node_rules.specs.Context.{ContextValue, is_transmitter}
+use Rattle.can_node_rules.specs.Pieces.{Place}
+use Rattle.can_node_rules.specs.Pieces.Place.{AtReset, AtIntegration, AtIdle, AfterSof}
+use Rattle.can_node_rules.specs.Pieces.Place.{AtLastEofBit, AtFlag, AtDelimiter, AtInterframeSpace}
+use Rattle.can_node_rules.specs.NextBit.{open_bits}
 use Rattle.can_node.specs.NextField.{IsInSegment, SegmentAt}
-use Rattle.can_bits.proofs.NextOnce.{IsNext-unique}
-use Rattle.sja_link.specs.NodeWords.{NodeEntry, FinishedPiece, IsCut}
+use Rattle.can_levels.proofs.NextOnce.{IsNext-unique}
+use Rattle.sja_journal.specs.NodeWords.{NodeEntry, FinishedPiece, IsCut}
 use Rattle.sja_replay.specs.declared.view.View.{View}
 use Rattle.sja_replay.specs.Viewing.{IsView}
-use Rattle.can_node.proofs.OneCut.SameCuts.{same_now, same_place, same_bits, same_phase}
+use Rattle.can_node_rules.proofs.OneCut.SameCuts.{same_now, same_place, same_bits, same_phase}
 
 -- ---- the segment
 

@@ -4,17 +4,18 @@ use Rattle.std.proofs.Common.{suc, sym, ap, subst, arith, inl, inr, ◌+◌, map
 use Rattle.std.proofs.lemmas.List.{append-nil, map_more}
 use Rattle.std.specs.Borrow.{Bor}
 use Rattle.std.specs.List.{AllZip}
-use Rattle.sja_words.specs.declared.plan_question.PlanQuestion.{PlanQuestion}
-use Rattle.sja_words.specs.declared.plan_question.PlanQuestion.TheVariants.{Candump, Check, Frames, Picture, Plan}
-use Rattle.sja_words.specs.declared.plan_question.PlanQuestion.TheVariants.{Registers, Report, StruckPlan, Sweep}
-use Rattle.sja_words.specs.declared.plan_question.PlanQuestion.TheVariants.{Trace, Wave}
-use Rattle.sja_texts.specs.declared.command_refusal.CommandRefusal.TheVariants.{OutOfMemory}
+use Rattle.sja_command_line.specs.declared.plan_question.PlanQuestion.{PlanQuestion}
+use Rattle.sja_command_line.specs.declared.plan_question.PlanQuestion.TheVariants.{Candump, Check, Frames, Picture}
+use Rattle.sja_command_line.specs.declared.plan_question.PlanQuestion.TheVariants.{Plan}
+use Rattle.sja_command_line.specs.declared.plan_question.PlanQuestion.TheVariants.{Registers, Report, StruckPlan, Sweep}
+use Rattle.sja_command_line.specs.declared.plan_question.PlanQuestion.TheVariants.{Trace, Wave}
+use Rattle.text_codec.specs.declared.command_refusal.CommandRefusal.TheVariants.{OutOfMemory}
 use Rattle.sja_run.specs.Files.{AreOutcomes, IsOutcome, IsUnanswered, IsUnread}
 use Rattle.sja_run.specs.Inside.FileReads.{AreReads, ComeOf, ComesOf, IsReadOf, Settles, all_refused}
 use Rattle.sja_run.specs.Inside.FileReads.{outcomes_in}
 use Rattle.sja_run.specs.declared.file_outcome.FileOutcome.{FileOutcome}
 use Rattle.sja_run.specs.declared.file_outcome.FileOutcome.TheVariants.{Printed, Told, Mistaken, Refused, Unreadable}
-use Rattle.sja_run.proofs.BytesRead.FewBytes.{few_unchecked}
+use Rattle.sja_program.proofs.BytesRead.FewBytes.{few_unchecked}
 
 -- what stands under names
 abbrev Holding : Type 1

@@ -1,15 +1,15 @@
 -- Files that are done portion by portion.
 use Rattle.std.proofs.Common.{◌≡◌, ◌≤◌, ◌++◌, ◌&&◌, ◌+◌, ◌-◌, ℕ, Bool, true, false, List, [], Option, length, map, take}
 use Rattle.std.proofs.Common.{Result, drop, refl, sym, ap, ap₂, ◌∙◌, subst, append_assoc, arith, inl, inr, Some}
-use Rattle.std.specs.Prelude.{if◌then◌else◌, nat_lt, slice_range}
+use Rattle.std.specs.Prelude.{slice_range}
 use Rattle.std.specs.Borrow.{Bor}
-use Rattle.std.specs.Io.KnownBytes.{Appends, Keeps}
+use Rattle.std.specs.Io.KnownBytes.{Keeps}
 use Rattle.std.specs.List.{list_all}
-use Rattle.std.proofs.lemmas.List.{append-nil, drop-drop, length-take, map-append}
+use Rattle.std.proofs.lemmas.List.{drop-drop, length-take, map-append}
 use Rattle.std.proofs.lemmas.List.{take-append-drop, take-take}
 use Rattle.std.proofs.lemmas.List.Folds.{list_all-append}
-use Rattle.sja_words.specs.declared.plan_question.PlanQuestion.{PlanQuestion}
-use Rattle.sja_run.specs.Answer.{IsLeft}
+use Rattle.sja_command_line.specs.declared.plan_question.PlanQuestion.{PlanQuestion}
+use Rattle.sja_program.specs.Answer.{IsLeft}
 use Rattle.sja_run.specs.Files.{AreOutcomes, ShowsFiles, is_printed, of_each, printed_of, refused_of}
 use Rattle.sja_run.specs.Inside.FileReads.{outcomes_in}
 use Rattle.sja_run.specs.Inside.FileTexts.{AreDone, AreTold, Wrote}
@@ -108,34 +108,6 @@ done_more Holds q names start end a b c several all answered out_was out_now out
         wrote_both (refused_of several) done some outcomes ps err_was err_now err_is e f h len so_far.told.2 err,
       );
     }
-
--- texts that are the same of names that are
-named : (text said : List ℕ → FileOutcome → List ℕ) (names done : List (List ℕ)) (old new : Option (List ℕ))
-    (outcomes : List FileOutcome) → text ≡ said → done ≡ names → Appends old new (of_each text done outcomes) →
-    Appends old new (of_each said names outcomes)
-named text said names done old new outcomes same whole wrote =
-    subst (λ (l : List ℕ → FileOutcome → List ℕ). Appends old new (of_each l names outcomes)) same
-    (subst (λ (ns : List (List ℕ)). Appends old new (of_each text ns outcomes)) whole wrote)
-
--- when no name is left, and no write has failed
-pub all_done : (Holds : List ℕ → Option (List ℕ) → Type 0) (q : PlanQuestion) (names left : List (List ℕ))
-    (a b : Option (List ℕ)) (several all : Bool) (out_was err_was : Bool) (o r e h : Option (List ℕ)) → left ≡ [] →
-    several ≡ nat_lt 1 (length names) →
-    AreDone Holds q names left a b (AreTold several all out_was false err_was false o r e h) →
-    ShowsFiles Holds q names (if all then 0 else 1) a b o r e h
-all_done Holds q names left a b several all out_was err_was o r e h none is so_far =
-    let outcomes = so_far.outcomes in
-    let whole : so_far.done ≡ names =
-    sym (so_far.whole ∙ ap (λ (l : List (List ℕ)). so_far.done ++ l) none ∙ append-nil so_far.done) in
-    inl (
-      outcomes,
-      subst (λ (ns : List (List ℕ)). AreOutcomes Holds q ns a b outcomes) whole so_far.are,
-      ap (λ (t : Bool). if t then 0 else 1) so_far.told.0,
-      named (printed_of several) (printed_of (nat_lt 1 (length names))) names so_far.done o r outcomes
-          (ap printed_of is) whole (so_far.told.1 refl).1,
-      named (refused_of several) (refused_of (nat_lt 1 (length names))) names so_far.done e h outcomes
-          (ap refused_of is) whole (so_far.told.2 refl).1,
-    )
 
 -- ---- of what words ask for
 

@@ -10,7 +10,7 @@ use Rattle.sja_run.specs.Files.{is_printed, of_each}
 use Rattle.sja_run.specs.Inside.FileReads.{all_refused}
 use Rattle.sja_run.specs.Inside.FileTexts.{Wrote}
 use Rattle.sja_run.specs.declared.file_outcome.FileOutcome.TheVariants.{Refused}
-use Rattle.sja_texts.specs.declared.command_refusal.CommandRefusal.TheVariants.{OutOfMemory}
+use Rattle.text_codec.specs.declared.command_refusal.CommandRefusal.TheVariants.{OutOfMemory}
 use Rattle.sja_run.specs.declared.file_outcome.FileOutcome.{FileOutcome}
 
 -- the names behind references

@@ -4,8 +4,8 @@ use Rattle.std.proofs.Common.{refl, inl, inr, sym}
 use Rattle.std.specs.Prelude.{if◌then◌else◌}
 use Rattle.std.specs.Io.KnownBytes.{Appends, Keeps}
 use Rattle.std.proofs.lemmas.List.{append-nil}
-use Rattle.sja_texts.specs.declared.command_refusal.CommandRefusal.TheVariants.{OutOfMemory}
-use Rattle.sja_run.specs.Answer.{IsLeft}
+use Rattle.text_codec.specs.declared.command_refusal.CommandRefusal.TheVariants.{OutOfMemory}
+use Rattle.sja_program.specs.Answer.{IsLeft}
 use Rattle.sja_run.specs.Expected.{MeetsPlan, ShowsExpected}
 use Rattle.sja_run.specs.Files.{status_of}
 use Rattle.sja_run.specs.Inside.FileReads.{IsMetBy, IsReadOf}

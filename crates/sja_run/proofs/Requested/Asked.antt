@@ -1,14 +1,16 @@
 -- What is done of a request, by what is done of one of its kind.
 use Rattle.std.proofs.Common.{◌≡◌, ℕ, Bool, List, Option, Some, refl}
-use Rattle.sja_words.specs.Requests.{Request, encode, decode, filter, arbitrate, message, run, wave, trace, frames}
-use Rattle.sja_words.specs.Requests.{registers}
-use Rattle.sja_words.specs.Requests.{picture, candump, check, sweep, struck_plan, spelled_plan, expected, files, live}
-use Rattle.sja_words.specs.declared.plan_question.PlanQuestion.{PlanQuestion}
-use Rattle.sja_run.specs.Answer.{AsksForOne, Shows}
+use Rattle.sja_command_line.specs.Requests.{Request, encode, decode, filter, arbitrate, message, run, wave, trace}
+use Rattle.sja_command_line.specs.Requests.{frames}
+use Rattle.sja_command_line.specs.Requests.{registers}
+use Rattle.sja_command_line.specs.Requests.{picture, candump, check, sweep, struck_plan, spelled_plan, expected, files}
+use Rattle.sja_command_line.specs.Requests.{live}
+use Rattle.sja_command_line.specs.declared.plan_question.PlanQuestion.{PlanQuestion}
+use Rattle.sja_program.specs.Answer.{AsksForOne, Shows}
 use Rattle.sja_run.specs.Asked.{ShowsAsked}
 use Rattle.sja_run.specs.Expected.{ShowsExpected}
 use Rattle.sja_run.specs.Files.{ShowsFiles}
-use Rattle.sja_run.specs.Live.{ShowsTalk}
+use Rattle.sja_run.specs.Live.{ShowsLiveSession}
 
 module _ (Holds : List ℕ → Option (List ℕ) → Type 0) (status : ℕ)
     (in_old in_new out_old out_new err_old err_new : Option (List ℕ)) where
@@ -18,7 +20,7 @@ module _ (Holds : List ℕ → Option (List ℕ) → Type 0) (status : ℕ)
       ShowsFiles Holds asked names status in_old in_new out_old out_new err_old err_new) →
       ((threads : Bool) (plan report : List ℕ) → r ≡ expected threads plan report →
       ShowsExpected Holds threads plan report status in_old in_new out_old out_new err_old err_new) →
-      (r ≡ live → ShowsTalk status in_old in_new out_old out_new err_old err_new) →
+      (r ≡ live → ShowsLiveSession status in_old in_new out_old out_new err_old err_new) →
       ShowsAsked Holds r status in_old in_new out_old out_new err_old err_new
   shows_asked (encode digits) one of_files expects talks = one tt
   shows_asked (decode digits) one of_files expects talks = one tt

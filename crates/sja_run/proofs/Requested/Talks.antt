@@ -2,10 +2,10 @@
 use Rattle.std.proofs.Common.{◌≡◌, ◌⊎◌, ℕ, Bool, List, [], Option, Some, None, false, refl, sym, subst, inl, inr}
 use Rattle.std.proofs.lemmas.List.{append-nil}
 use Rattle.sja_live.specs.Talking.{IsBrokenOff, Speaks}
-use Rattle.sja_live.specs.declared.talk_fault.TalkFault.TheVariants.{Memory}
-use Rattle.sja_texts.specs.declared.command_refusal.CommandRefusal.TheVariants.{OutOfMemory}
-use Rattle.sja_run.specs.Answer.{IsLeft}
-use Rattle.sja_run.specs.Live.{ShowsTalk}
+use Rattle.sja_live.specs.declared.live_session_fault.LiveSessionFault.TheVariants.{Memory}
+use Rattle.text_codec.specs.declared.command_refusal.CommandRefusal.TheVariants.{OutOfMemory}
+use Rattle.sja_program.specs.Answer.{IsLeft}
+use Rattle.sja_run.specs.Live.{ShowsLiveSession}
 
 -- nothing was read or written
 pub silent : (input out : Option (List ℕ)) → Speaks input input out out (IsBrokenOff Memory)
@@ -16,7 +16,7 @@ silent (Some input) (Some old) = ([], sym (append-nil old), inl (refl, inl ([], 
 -- no talk was begun, since memory was refused
 pub left_talks : (status : ℕ) (failed : Bool) (in_old in_new out_old out_new err_old err_new : Option (List ℕ)) →
     IsLeft (Some status) failed err_old err_new → in_new ≡ in_old → out_new ≡ out_old → failed ≡ false →
-    ShowsTalk status in_old in_new out_old out_new err_old err_new
+    ShowsLiveSession status in_old in_new out_old out_new err_old err_new
 left_talks status failed in_old in_new out_old out_new err_old err_new (inl none) unread same wrote = cc
 left_talks status failed in_old in_new out_old out_new err_old err_new (inr told) unread same wrote =
     let broken = subst (λ o. Speaks in_old in_new out_old o (IsBrokenOff Memory)) (sym same)
@@ -25,6 +25,6 @@ left_talks status failed in_old in_new out_old out_new err_old err_new (inr told
 
 -- a talk from where another call left all as it was
 pub talks_from : (status : ℕ) (a b c x y z i o e : Option (List ℕ)) → x ≡ a → y ≡ b → z ≡ c →
-    ShowsTalk status x i y o z e → ShowsTalk status a i b o c e
+    ShowsLiveSession status x i y o z e → ShowsLiveSession status a i b o c e
 talks_from status a b c x y z i o e same_in same_out same_err shows =
     rw (sym same_in, sym same_out, sym same_err) shows

@@ -1,8 +1,8 @@
 -- Plans that are read under names, and then answered.
 use Rattle.std.specs.Prelude.{◌≡◌, ◌∷◌, ℕ, Bool, List, [], Option, Result, Ok, Err, map}
 use Rattle.std.specs.List.{AllZip}
-use Rattle.sja_words.specs.declared.plan_question.PlanQuestion.{PlanQuestion}
-use Rattle.sja_texts.specs.declared.command_refusal.CommandRefusal.TheVariants.{OutOfMemory}
+use Rattle.sja_command_line.specs.declared.plan_question.PlanQuestion.{PlanQuestion}
+use Rattle.text_codec.specs.declared.command_refusal.CommandRefusal.TheVariants.{OutOfMemory}
 use Rattle.sja_run.specs.Expected.{Meets}
 use Rattle.sja_run.specs.Files.{Answers, IsReadAs, IsUnread}
 use Rattle.sja_run.specs.declared.file_outcome.FileOutcome.{FileOutcome}

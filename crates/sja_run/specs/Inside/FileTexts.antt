@@ -2,7 +2,7 @@
 use Rattle.std.specs.Prelude.{◌≡◌, ◌++◌, ℕ, Bool, false, List, Option}
 use Rattle.std.specs.Io.KnownBytes.{Appends}
 use Rattle.std.specs.List.{list_all}
-use Rattle.sja_words.specs.declared.plan_question.PlanQuestion.{PlanQuestion}
+use Rattle.sja_command_line.specs.declared.plan_question.PlanQuestion.{PlanQuestion}
 use Rattle.sja_run.specs.Files.{AreOutcomes, is_printed, of_each, printed_of, refused_of}
 use Rattle.sja_run.specs.declared.file_outcome.FileOutcome.{FileOutcome}
 

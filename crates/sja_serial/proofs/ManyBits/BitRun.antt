@@ -1,10 +1,10 @@
 -- A run after a bit.
 use Rattle.std.proofs.Common.{◌≡◌, ℕ, ◌+◌, ◌<◌, List, length, sym, ap, ◌∙◌, subst, arith}
 use Rattle.std.specs.Prelude.{None, slice_index_or}
-use Rattle.can_bits.specs.declared.level.Level.TheVariants.{Recessive}
-use Rattle.sja_link.specs.declared.entry.Entry.{Entry}
-use Rattle.sja_link.specs.Sizes.{most_activations}
-use Rattle.sja_link.specs.Accounts.{Account}
+use Rattle.can_levels.specs.declared.level.Level.TheVariants.{Recessive}
+use Rattle.sja_journal.specs.declared.entry.Entry.{Entry}
+use Rattle.sja_journal.specs.Sizes.{most_activations}
+use Rattle.sja_journal.specs.Accounts.{Account}
 use Rattle.sja_link.specs.Deques.{Deques, Lies, AreAlike}
 use Rattle.lemmas.specs.Related.{EachRelated}
 use Rattle.lemmas.proofs.Lists.{some_of}
@@ -12,22 +12,22 @@ use Rattle.sja_regs.specs.declared.registers.Registers.{Registers}
 use Rattle.sja_regs.specs.Registers.{at_power_on}
 use Rattle.sja_regs.specs.Turns.{after_turn}
 use Rattle.sja_bus.specs.Boards.{HasOrders, WasTold, WasKept}
-use Rattle.sja_wire.specs.Buses.{KeepsAll, IsBit, untold_at}
-use Rattle.sja_wire.specs.Lawful.{IsBusRun}
-use Rattle.sja_link.specs.Links.{Kept}
-use Rattle.sja_wire.specs.Wire.{journal_at}
-use Rattle.sja_script.specs.declared.strike.Strike.{Strike}
+use Rattle.sja_bus_rules.specs.Buses.{KeepsAll, IsBit, untold_at}
+use Rattle.sja_bus_rules.specs.Lawful.{IsBusRun}
+use Rattle.sja_journal.specs.Links.{Kept}
+use Rattle.sja_bus_rules.specs.Wire.{journal_at}
+use Rattle.sja_steps.specs.declared.strike.Strike.{Strike}
 use Rattle.sja_driver.specs.declared.logged_driver.LoggedDriver.{LoggedDriver}
-use Rattle.sja_driver.specs.Deeds.{Deed, deeds_at}
+use Rattle.sja_driver.specs.TypedActs.{TypedAct, acts_at}
 use Rattle.sja_driver.specs.LoggedDrivers.{node_of}
 use Rattle.sja_serial.specs.Bits.{TakesBit}
-use Rattle.sja_link.specs.BitEntries.{HasOneBit}
-use Rattle.sja_log.specs.Nodes.{IsNode}
-use Rattle.sja_log.specs.Registering.{IsPortBit}
+use Rattle.sja_journal.specs.BitEntries.{HasOneBit}
+use Rattle.sja_promises.specs.Nodes.{IsNode}
+use Rattle.sja_promises.specs.Registering.{IsPortBit}
 use Rattle.sja_serial.specs.Serial.{Setup, SerialValue, StandsAt}
 use Rattle.sja_driver.specs.Shown.{ShowsRecord}
 use Rattle.sja_driver.proofs.OneBit.BitAsked.{HasCut}
-use Rattle.sja_log.proofs.OneNode.BitOn.{BitOf, OrdersOf, after_one_bit, one_bit, port_bit, shows}
+use Rattle.sja_promises.proofs.OneNode.BitOn.{BitOf, OrdersOf, after_one_bit, one_bit, port_bit, shows}
 use Rattle.sja_bus.proofs.AtPorts.OtherWords.{other_node_bit}
 use Rattle.sja_serial.proofs.OneNode.Alike.{still_ends, still_starts}
 
@@ -36,7 +36,7 @@ pub cuts_of : {script : List Strike} {run : ℕ} {journals : List (List Entry)} 
     (m : ℕ) → m < length journals → HasCut (journal_at journals m)
 cuts_of h m less = let l = h.lawful m less in record { found = l.found; cut = l.cut }
 
-module _ (setup : Setup) (r n : SerialValue) (deeds : List (List Deed)) (h : StandsAt setup r deeds)
+module _ (setup : Setup) (r n : SerialValue) (acts : List (List TypedAct)) (h : StandsAt setup r acts)
     (right : n.bus.fault ≡ None) (script : n.bus.script ≡ r.bus.script)
     (starts : n.bus.starts ≡ r.bus.starts) (room : n.bus.steps ≡ r.bus.steps)
     (run : n.bus.run ≡ r.bus.run + 1) (left : n.bus.left + 1 ≡ r.bus.left)
@@ -72,7 +72,7 @@ module _ (setup : Setup) (r n : SerialValue) (deeds : List (List Deed)) (h : Sta
     one : HasOneBit (journal_at r.bus.journals m) (journal_at n.bus.journals m)
     one = one_bit after (h.nodes m d p l less) here keeps
 
-    node_now : IsNode setup.version (slice_index_or setup.steps m 0) (journal_at n.bus.journals m) (deeds_at deeds m)
+    node_now : IsNode setup.version (slice_index_or setup.steps m 0) (journal_at n.bus.journals m) (acts_at acts m)
         (slice_index_or r.drivers m d) (slice_index_or n.ports m p) after
     node_now = after_one_bit after (h.nodes m d p l less) here keeps (h.shown m p less) (cuts m (inside m less))
 
@@ -89,7 +89,7 @@ module _ (setup : Setup) (r n : SerialValue) (deeds : List (List Deed)) (h : Sta
   links_at : (m : ℕ) → m < setup.nodes → Deques
   links_at m less = some_of r.links m (let c = h.ends.count in omega (arith, c, less))
 
-  stands_now : StandsAt setup n deeds
+  stands_now : StandsAt setup n acts
   stands_now = record {
     right = right;
     script = script ∙ h.script;
@@ -100,7 +100,7 @@ module _ (setup : Setup) (r n : SerialValue) (deeds : List (List Deed)) (h : Sta
       drivers = ap (λ l. length l) drivers_are ∙ h.count.drivers;
       ports = ports ∙ h.count.ports;
     };
-    deeds_count = h.deeds_count;
+    acts_count = h.acts_count;
     may = h.may;
     steps = room ∙ h.steps;
     links = starts ∙ h.links;
@@ -108,12 +108,12 @@ module _ (setup : Setup) (r n : SerialValue) (deeds : List (List Deed)) (h : Sta
     starts = still_starts (most_activations setup.version) r.links n.links h.starts sames;
     own = λ m d less. ap (λ (l : List LoggedDriver). node_of (slice_index_or l m d)) drivers_are ∙ h.own m d less;
     nodes = λ m d p l less. subst (λ (ds : List LoggedDriver). IsNode setup.version (slice_index_or setup.steps m 0)
-        (journal_at n.bus.journals m) (deeds_at deeds m) (slice_index_or ds m d) (slice_index_or n.ports m p)
+        (journal_at n.bus.journals m) (acts_at acts m) (slice_index_or ds m d) (slice_index_or n.ports m p)
         (slice_index_or n.links m l)) (sym drivers_are) (node_now m d p l less);
     shown = λ m p less told. shows_now m (driver_at m less) p (links_at m less) less;
   }
 
-  pub takes_bit : TakesBit setup deeds r n
+  pub takes_bit : TakesBit setup acts r n
   takes_bit = record {
     stands = stands_now;
     bits = bits_are;

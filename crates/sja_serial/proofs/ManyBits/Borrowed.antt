@@ -1,15 +1,13 @@
 -- A run whose links a call has as a slice.
-use Rattle.std.proofs.Common.{◌≡◌, ℕ, ◌<◌, List, length, sym, ◌∙◌, subst}
+use Rattle.std.proofs.Common.{◌≡◌, ℕ, ◌<◌, List, sym, ◌∙◌, subst}
 use Rattle.sja_link.specs.Deques.{Deques}
-use Rattle.sja_link.specs.Links.{AreEnds, HaveLinks}
 use Rattle.sja_regs.specs.declared.registers.Registers.{Registers}
-use Rattle.sja_wire.specs.Buses.{BusValue}
-use Rattle.sja_wire.specs.Lawful.{IsBusRun}
+use Rattle.sja_bus_rules.specs.Buses.{BusValue}
+use Rattle.sja_bus_rules.specs.Lawful.{IsBusRun}
 use Rattle.sja_driver.specs.declared.logged_driver.LoggedDriver.{LoggedDriver}
-use Rattle.sja_driver.specs.Deeds.{Deed}
-use Rattle.sja_serial.specs.Serial.{Setup, SerialValue, StandsAt, IsRunOf}
-use Rattle.sja_serial.specs.Inside.Going.{run_now}
-use Rattle.sja_serial.proofs.OneNode.Alike.{links_are}
+use Rattle.sja_driver.specs.TypedActs.{TypedAct}
+use Rattle.sja_serial.specs.Serial.{Setup, SerialValue, StandsAt}
+use Rattle.sja_serial.specs.Inside.SerialProgress.{run_now}
 
 module _ {bus : BusValue} {drivers : List LoggedDriver} {ports : List Registers}
     {slice links : List Deques} {bits : ℕ} {r : SerialValue} (same : slice ≡ links)
@@ -19,18 +17,9 @@ module _ {bus : BusValue} {drivers : List LoggedDriver} {ports : List Registers}
   run_is = (λ i. run_now bus drivers ports (same i) bits) ∙ view
 
   -- it stands where that run does, and has bits left where that has
-  pub stands_there : (setup : Setup) (deeds : List (List Deed)) → StandsAt setup r deeds →
-      StandsAt setup (run_now bus drivers ports slice bits) deeds
-  stands_there setup deeds = subst (λ (x : SerialValue). StandsAt setup x deeds) (sym run_is)
-
-  -- the slice has the ends of its nodes' links
-  pub ends_there : {setup : Setup} → IsRunOf setup r → AreEnds (λ (s : Deques). s.node) (length bus.journals) slice
-  ends_there {setup} run = let h = stands_there setup run.0 run.1 in
-      subst (λ (n : ℕ). AreEnds (λ (s : Deques). s.node) n slice) (sym h.count.journals) h.ends
-
-  -- each with as many as its bus knows
-  pub links_there : {setup : Setup} → IsRunOf setup r → HaveLinks (λ (s : Deques). s.starts) bus.starts slice
-  links_there {setup} run = let h = stands_there setup run.0 run.1 in links_are slice h.links h.ends.count h.starts
+  pub stands_there : (setup : Setup) (acts : List (List TypedAct)) → StandsAt setup r acts →
+      StandsAt setup (run_now bus drivers ports slice bits) acts
+  stands_there setup acts = subst (λ (x : SerialValue). StandsAt setup x acts) (sym run_is)
 
   pub left_there : (setup : Setup) → r.bits < setup.bits → bits < setup.bits
   left_there setup = subst (λ (x : SerialValue). x.bits < setup.bits) (sym run_is)

@@ -7,9 +7,9 @@ use Rattle.sja_bus.specs.UntilTold.{EndsUntilTold as EndsOnBus}
 use Rattle.sja_bus.specs.UntilTold.EndsUntilTold.{no_more as none_on_bus, told as told_on_bus}
 use Rattle.sja_bus.proofs.AllNodes.UntilTold.{held_of, none_of}
 use Rattle.sja_driver.specs.declared.logged_driver.LoggedDriver.{LoggedDriver}
-use Rattle.sja_driver.specs.Deeds.{Deed}
+use Rattle.sja_driver.specs.TypedActs.{TypedAct}
 use Rattle.sja_serial.specs.Serial.{Setup, SerialValue, StandsAt, IsRunOf}
-use Rattle.sja_serial.specs.Inside.Going.{run_now}
+use Rattle.sja_serial.specs.Inside.SerialProgress.{run_now}
 use Rattle.sja_serial.specs.UntilTold.{EndsUntilTold, TakesUntilTold, NoneTold}
 use Rattle.sja_serial.specs.UntilTold.EndsUntilTold.{no_more, told, alone}
 use Rattle.sja_serial.proofs.ManyBits.ManyBits.{SerialMoment, ports}
@@ -40,7 +40,7 @@ module _ {setup : Setup} {was : SerialValue} (run : IsRunOf setup was) (most cou
   left_there (inr few) = let left = run.1.all_bits in let bits = run.1.bits in inr (omega (arith, few, left, bits))
 
   pub ended_of : {now : SerialValue} {n : ℕ} → (most ≡ count) ⊎ (was.bits + most ≡ setup.bits) →
-      ((deeds : List (List Deed)) → StandsAt setup was deeds → TakesUntilTold setup deeds was n now) →
+      ((acts : List (List TypedAct)) → StandsAt setup was acts → TakesUntilTold setup acts was n now) →
       EndsUntilTold most was n now → EndsUntilTold count was n now
   ended_of {now} {n} which bits (no_more why) =
       no_more (none_of false most count n now.bus (left_now (left_there which)) why)

@@ -3,20 +3,20 @@ use Rattle.std.proofs.Common.{◌≡◌, ℕ, ◌+◌, ◌≤◌, Bool, true, fa
 use Rattle.std.specs.Prelude.{None}
 use Rattle.sja_link.specs.Deques.{Deques}
 use Rattle.sja_bus.specs.declared.board.Board.{Ghosts as Ports}
-use Rattle.sja_wire.specs.declared.bus_fault.BusFault.{BusFault}
+use Rattle.sja_journal.specs.declared.bus_fault.BusFault.{BusFault}
 use Rattle.sja_bus.specs.declared.serial_board.SerialBoard.{SerialBoard}
 use Rattle.sja_bus.specs.Boards.{HasOrders, HasFacts, ShowsTurn, WasTold, WasClosed, WasKept}
-use Rattle.sja_wire.specs.Lawful.{IsBusRun}
-use Rattle.sja_wire.specs.Buses.{BusValue}
+use Rattle.sja_bus_rules.specs.Lawful.{IsBusRun}
+use Rattle.sja_bus_rules.specs.Buses.{BusValue}
 use Rattle.sja_bus.specs.Moment.{Moment, OneBit, moment}
 use Rattle.sja_bus.specs.Several.{BitInOrder, AreBits, WorksIf, BreaksOff}
 use Rattle.sja_bus.specs.Several.AreBits.{no_bit as none_run, one_more as one_run}
 use Rattle.sja_bus.specs.UntilTold.{WorksUntold}
 use Rattle.sja_driver.specs.declared.logged_driver.LoggedDriver.{LoggedDriver}
-use Rattle.sja_driver.specs.Deeds.{Deed}
+use Rattle.sja_driver.specs.TypedActs.{TypedAct}
 use Rattle.sja_serial.specs.Bits.{TakesBit, TakesBits, SomeWorks}
 use Rattle.sja_serial.specs.Serial.{Setup, SerialValue, StandsAt, IsRunOf}
-use Rattle.sja_serial.specs.Inside.Going.{run_now}
+use Rattle.sja_serial.specs.Inside.SerialProgress.{run_now}
 use Rattle.sja_serial.specs.UntilTold.{NoneTold}
 use Rattle.sja_serial.specs.Bits.TakesBits.{no_bit, one_more}
 use Rattle.sja_link.proofs.QueuedLinks.Ends.{ends}
@@ -56,8 +56,8 @@ run_then drivers m = run_now m.bus drivers m.board.ports.items m.links m.bus.run
 pub record IsKind (setup : Setup) (One : ℕ → SerialMoment → SerialMoment → Type 0)
     (Before : SerialMoment → SerialMoment → Type 0) (After : SerialValue → SerialValue → Type 0) : Type 0 where
   pub bit : (k : ℕ) (was now : SerialMoment) → One k was now → OneBit ends ports was now
-  pub holds : (deeds : List (List Deed)) (drivers : List LoggedDriver) (first m : SerialMoment) →
-      StandsAt setup (run_then drivers m) deeds → Before first m → After (run_then drivers first) (run_then drivers m)
+  pub holds : (acts : List (List TypedAct)) (drivers : List LoggedDriver) (first m : SerialMoment) →
+      StandsAt setup (run_then drivers m) acts → Before first m → After (run_then drivers first) (run_then drivers m)
 
 -- whether a call ends at rest, as a number
 abbrev pub ends_at_rest : Bool → ℕ
@@ -73,13 +73,13 @@ pub busy : (setup : Setup) (to_rest : Bool) → ends_at_rest to_rest ≡ 1 →
     IsKind setup NthBit (λ first. WorksIf to_rest) (λ first. SomeWorks setup)
 busy setup to_rest asked = record {
   bit = λ k was now one. one.bit;
-  holds = λ deeds drivers first m stands works.
-      some_works setup (run_then drivers m) deeds stands (works (rests to_rest asked));
+  holds = λ acts drivers first m stands works.
+      some_works setup (run_then drivers m) acts stands (works (rests to_rest asked));
 }
 
 -- those of a call, whether it ends at rest or not
 pub either : (setup : Setup) (to_rest : Bool) → IsKind setup NthBit (λ first. WorksIf to_rest) (λ first r. Unit {0})
-either setup to_rest = record { bit = λ k was now one. one.bit; holds = λ deeds drivers first m stands works. tt }
+either setup to_rest = record { bit = λ k was now one. one.bit; holds = λ acts drivers first m stands works. tt }
 
 -- whether the call that ran these ends at rest
 abbrev pub asked_in : {E B : Type 0} {One : ℕ → Moment E B → Moment E B → Type 0} (to_rest : Bool)
@@ -90,22 +90,22 @@ asked_in to_rest bits = to_rest
 pub untold : (setup : Setup) → IsKind setup (λ k. OneBit ends ports) (WorksUntold false) NoneTold
 untold setup = record {
   bit = λ k was now one. one;
-  holds = λ deeds drivers first m stands both. record {
+  holds = λ acts drivers first m stands both. record {
     ports = ap (λ (b : SerialBoard). b.ports.items) both.1.board;
     journals = both.1.journals;
   };
 }
 
-module _ (setup : Setup) (deeds : List (List Deed)) (drivers : List LoggedDriver) where
+module _ (setup : Setup) (acts : List (List TypedAct)) (drivers : List LoggedDriver) where
   -- a run stands there, and its bus has its laws
   pub record IsThere (m : SerialMoment) : Type 0 where
-    pub stands : StandsAt setup (run_then drivers m) deeds
+    pub stands : StandsAt setup (run_then drivers m) acts
     pub lawful : IsBusRun m.bus.script m.bus.run m.bus.journals
 
   one_bit : (was now : SerialMoment) → IsThere was → OneBit ends ports was now →
-      TakesBit setup deeds (run_then drivers was) (run_then drivers now)
+      TakesBit setup acts (run_then drivers was) (run_then drivers now)
   one_bit was now t b =
-      takes_bit setup (run_then drivers was) (run_then drivers now) deeds t.stands b.right b.keeps.script
+      takes_bit setup (run_then drivers was) (run_then drivers now) acts t.stands b.right b.keeps.script
       b.keeps.starts b.keeps.steps b.run b.left b.keeps.nodes refl b.run b.keeps.others.0 b.kept b.keeps.sames
       b.bit (cuts_of t.lawful) b.lawful
 
@@ -120,17 +120,17 @@ module _ (setup : Setup) (deeds : List (List Deed)) (drivers : List LoggedDriver
 
     -- each of them is a bit of the run
     takes_bits : (was now : SerialMoment) (n : ℕ) → AreBits One (Before first) was n now → IsThere was →
-        TakesBits setup deeds (After (run_then drivers first)) (run_then drivers was) n (run_then drivers now)
+        TakesBits setup acts (After (run_then drivers first)) (run_then drivers was) n (run_then drivers now)
     takes_bits was now n (none_run _) t = no_bit (run_then drivers was)
     takes_bits was now n (one_run _ mid _ k bits before one) t =
         let m = there_still was mid k bits t in
         one_more (run_then drivers was) (run_then drivers mid) (run_then drivers now) k (takes_bits was mid k bits t)
-        (kind.holds deeds drivers first mid m.stands before) (one_bit mid now m (kind.bit k mid now one))
+        (kind.holds acts drivers first mid m.stands before) (one_bit mid now m (kind.bit k mid now one))
 
     many_run : (was now : SerialMoment) (n : ℕ) → AreBits One (Before first) was n now → IsThere was →
         now.bus.run ≡ was.bus.run + n
     many_run was now n bits t = let After_first = After (run_then drivers first) in
-        bits_run setup deeds After_first (run_then drivers was) (run_then drivers now) n
+        bits_run setup acts After_first (run_then drivers was) (run_then drivers now) n
         (takes_bits was now n bits t)
 
     -- none of them broke off, where no more were asked for than are left
@@ -141,7 +141,7 @@ module _ (setup : Setup) (deeds : List (List Deed)) (drivers : List LoggedDriver
         let m = there_still was b.mid b.run b.bits t in
         let run = many_run was b.mid b.run b.bits t in
         let early = b.early in
-        never_stops setup (run_then drivers b.mid) deeds m.stands (omega (arith, run, early, few)) m.lawful
+        never_stops setup (run_then drivers b.mid) acts m.stands (omega (arith, run, early, few)) m.lawful
         (HasOrders b.mid.board.ports.items) now.bus now.links f b.stops
 
 -- ---- a call that runs them, over a slice of the links of a run that has so many left
@@ -163,9 +163,9 @@ module _ (bus : BusValue) (drivers : List LoggedDriver) (board : SerialBoard) (s
   was_is = (λ i. run_now bus drivers board.ports.items slice (sym bits_are i))
       ∙ run_is same view
 
-  there : (deeds : List (List Deed)) → StandsAt setup r deeds → IsThere setup deeds drivers was
-  there deeds h = record {
-    stands = subst (λ (x : SerialValue). StandsAt setup x deeds) (sym was_is) h;
+  there : (acts : List (List TypedAct)) → StandsAt setup r acts → IsThere setup acts drivers was
+  there acts h = record {
+    stands = subst (λ (x : SerialValue). StandsAt setup x acts) (sym was_is) h;
     lawful = lawful_there same view lawful;
   }
 
@@ -179,12 +179,12 @@ module _ (bus : BusValue) (drivers : List LoggedDriver) (board : SerialBoard) (s
 
   -- those that it ran are bits of the run, into which the links are put back
   pub bits_taken : (now : SerialMoment) (back : List Deques) → back ≡ now.links → (many : ℕ) →
-      AreBits One (Before was) was many now → (deeds : List (List Deed)) → StandsAt setup r deeds →
-      TakesBits setup deeds (After r) r many (run_now now.bus drivers now.board.ports.items back (bits + many))
-  bits_taken now back back_is many are deeds h =
-      let t = takes_bits setup deeds drivers kind was was now many are (there deeds h) in
-      let b = many_run setup deeds drivers kind was was now many are (there deeds h) in
+      AreBits One (Before was) was many now → (acts : List (List TypedAct)) → StandsAt setup r acts →
+      TakesBits setup acts (After r) r many (run_now now.bus drivers now.board.ports.items back (bits + many))
+  bits_taken now back back_is many are acts h =
+      let t = takes_bits setup acts drivers kind was was now many are (there acts h) in
+      let b = many_run setup acts drivers kind was was now many are (there acts h) in
       let e = bits_are in let bits_now : now.bus.run ≡ bits + many = omega (arith, e, b) in
-      subst (λ (x : SerialValue). TakesBits setup deeds (After r) r many x)
+      subst (λ (x : SerialValue). TakesBits setup acts (After r) r many x)
       (λ i. run_now now.bus drivers now.board.ports.items (sym back_is i) (bits_now i))
-      (subst (λ (x : SerialValue). TakesBits setup deeds (After x) x many (run_then drivers now)) was_is t)
+      (subst (λ (x : SerialValue). TakesBits setup acts (After x) x many (run_then drivers now)) was_is t)

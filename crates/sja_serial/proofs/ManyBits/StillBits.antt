@@ -3,34 +3,34 @@ use Rattle.std.proofs.Common.{◌≡◌, ℕ, zero, suc, ◌+◌, ◌-◌, ◌<�
 use Rattle.std.proofs.Common.{◌∷◌, ◌++◌, length, refl, sym, ap, ◌∙◌, subst, append-nil, arith}
 use Rattle.std.specs.Prelude.{false, slice_index_or}
 use Rattle.std.proofs.lemmas.List.{length-map}
-use Rattle.sja_link.specs.declared.entry.Entry.{Entry}
-use Rattle.sja_link.specs.Sizes.{most_activations}
-use Rattle.sja_link.specs.Accounts.{Account, account}
+use Rattle.sja_journal.specs.declared.entry.Entry.{Entry}
+use Rattle.sja_journal.specs.Sizes.{most_activations}
+use Rattle.sja_journal.specs.Accounts.{Account, account}
 use Rattle.sja_link.specs.Deques.{Deques, Lies, AreAlike}
-use Rattle.sja_link.specs.Lists.{Lists}
+use Rattle.sja_journal.specs.Lists.{Lists}
 use Rattle.lemmas.specs.Related.{EachRelated}
 use Rattle.lemmas.proofs.Related.{each_refl}
 use Rattle.sja_regs.specs.declared.registers.Registers.{Registers}
 use Rattle.sja_bus.specs.Boards.{HasOrders, WasTold, WasKept}
-use Rattle.sja_wire.specs.Buses.{KeepsAll, untold_at}
-use Rattle.sja_link.specs.Links.{Kept}
+use Rattle.sja_bus_rules.specs.Buses.{KeepsAll, untold_at}
+use Rattle.sja_journal.specs.Links.{Kept}
 use Rattle.sja_bus.specs.Stretches.{recessive_bits, with_recessive, IsStretch}
-use Rattle.sja_wire.specs.Wire.{journal_at}
+use Rattle.sja_bus_rules.specs.Wire.{journal_at}
 use Rattle.sja_bus.proofs.Resting.QuietBits.{longer_at, account_still}
 use Rattle.sja_driver.specs.declared.logged_driver.LoggedDriver.{LoggedDriver}
-use Rattle.sja_driver.specs.Deeds.{Deed, deeds_at}
+use Rattle.sja_driver.specs.TypedActs.{TypedAct, acts_at}
 use Rattle.sja_driver.proofs.Trace.Stepping.{given_taken}
 use Rattle.sja_serial.specs.Bits.{TakesBit, TakesBits}
-use Rattle.sja_link.specs.BitEntries.{HasOneBit}
+use Rattle.sja_journal.specs.BitEntries.{HasOneBit}
 use Rattle.sja_serial.specs.Bits.TakesBits.{no_bit, one_more}
-use Rattle.sja_log.specs.Nodes.{IsNode}
-use Rattle.sja_log.specs.Registering.{IsPortBit}
+use Rattle.sja_promises.specs.Nodes.{IsNode}
+use Rattle.sja_promises.specs.Registering.{IsPortBit}
 use Rattle.sja_serial.specs.Serial.{Setup, SerialValue, StandsAt}
-use Rattle.sja_serial.specs.Inside.Going.{run_now}
+use Rattle.sja_serial.specs.Inside.SerialProgress.{run_now}
 use Rattle.sja_driver.specs.Shown.{ShowsRecord}
 use Rattle.sja_serial.proofs.OneNode.Alike.{alike_refl, still_ends, still_starts}
 use Rattle.sja_serial.proofs.ManyBits.BitRun.{cuts_of, takes_bit}
-use Rattle.sja_log.proofs.OneNode.Gathered.{linked_after, node_with}
+use Rattle.sja_promises.proofs.OneNode.Gathered.{linked_after, node_with}
 
 -- ---- recessive bits and what the links stand for
 
@@ -67,7 +67,7 @@ run_at r links untold i = run_now (record {
 
 -- ---- a run whose links were looked at, and nothing was taken
 
-module _ (setup : Setup) (r : SerialValue) (deeds : List (List Deed)) (h : StandsAt setup r deeds)
+module _ (setup : Setup) (r : SerialValue) (acts : List (List TypedAct)) (h : StandsAt setup r acts)
     (links : List Deques)
     (sames : EachRelated AreAlike r.links links)
     (kept : KeepsAll Lies r.bus.journals r.bus.journals r.links links) where
@@ -75,8 +75,8 @@ module _ (setup : Setup) (r : SerialValue) (deeds : List (List Deed)) (h : Stand
     abbrev j : List Entry
     j = journal_at r.bus.journals m
 
-    abbrev ds : List Deed
-    ds = deeds_at deeds m
+    abbrev ds : List TypedAct
+    ds = acts_at acts m
 
     was : IsNode setup.version (slice_index_or setup.steps m 0) j ds (slice_index_or r.drivers m d)
         (slice_index_or r.ports m p) (slice_index_or r.links m l)
@@ -90,7 +90,7 @@ module _ (setup : Setup) (r : SerialValue) (deeds : List (List Deed)) (h : Stand
 
   -- it stands where it stood, where nothing more is told
   pub stands_still : (untold : List Bool) → ((m : ℕ) → m < setup.nodes → untold_at untold m ≡ false →
-      untold_at r.bus.untold m ≡ false) → StandsAt setup (run_at r links untold 0) deeds
+      untold_at r.bus.untold m ≡ false) → StandsAt setup (run_at r links untold 0) acts
   stands_still untold told = let same = sym (with_none r.bus.journals) in record {
     right = h.right;
     script = h.script;
@@ -101,7 +101,7 @@ module _ (setup : Setup) (r : SerialValue) (deeds : List (List Deed)) (h : Stand
       drivers = h.count.drivers;
       ports = h.count.ports;
     };
-    deeds_count = h.deeds_count;
+    acts_count = h.acts_count;
     may = h.may;
     steps = h.steps;
     links = h.links;
@@ -109,7 +109,7 @@ module _ (setup : Setup) (r : SerialValue) (deeds : List (List Deed)) (h : Stand
     starts = still_starts (most_activations setup.version) r.links links h.starts sames;
     own = h.own;
     nodes = λ m d p l less. subst (λ (js : List (List Entry)). IsNode setup.version (slice_index_or setup.steps m 0)
-        (journal_at js m) (deeds_at deeds m) (slice_index_or r.drivers m d) (slice_index_or r.ports m p)
+        (journal_at js m) (acts_at acts m) (slice_index_or r.drivers m d) (slice_index_or r.ports m p)
         (slice_index_or links m l)) same (node_still m d p l less);
     shown = λ m p less none. subst (λ (l : List (List Entry)). ShowsRecord (journal_at l m)
         (slice_index_or r.ports m p)) same (h.shown m p less (told m less none));
@@ -126,26 +126,26 @@ module _ (setup : Setup) (r : SerialValue) (deeds : List (List Deed)) (h : Stand
     inside : (i m : ℕ) → m < length (with_recessive i r.bus.journals) → m < length r.bus.journals
     inside i m few = let c = length-map r.bus.journals (λ j. j ++ recessive_bits i) in omega (arith, few, c)
 
-    first : StandsAt setup (at r.bus.untold 0) deeds
+    first : StandsAt setup (at r.bus.untold 0) acts
     first = stands_still r.bus.untold (λ m less e. e)
 
-    takes : (untold : List Bool) (i : ℕ) → i < count → StandsAt setup (at r.bus.untold i) deeds →
-        TakesBit setup deeds (at r.bus.untold i) (at untold (suc i))
+    takes : (untold : List Bool) (i : ℕ) → i < count → StandsAt setup (at r.bus.untold i) acts →
+        TakesBit setup acts (at r.bus.untold i) (at untold (suc i))
     takes untold i early stood =
         let a = length-map r.bus.journals (λ j. j ++ recessive_bits i) in
         let b = length-map r.bus.journals (λ j. j ++ recessive_bits (suc i)) in
-        takes_bit setup (at r.bus.untold i) (at untold (suc i)) deeds stood h.right refl refl refl (omega arith)
+        takes_bit setup (at r.bus.untold i) (at untold (suc i)) acts stood h.right refl refl refl (omega arith)
         (omega (arith, early, most)) (omega (arith, a, b)) refl (omega arith) refl
         (λ m l acc few kept. keeps_still i (suc i) r.bus.journals (slice_index_or links m l) m acc (inside i m few)
         kept) (each_refl AreAlike alike_refl links) (stretch.bits i early)
         (cuts_of (stretch.lawful i (omega (arith, early)))) (stretch.lawful (suc i) early)
 
-    stands : (i : ℕ) → i ≤ count → StandsAt setup (at r.bus.untold i) deeds
+    stands : (i : ℕ) → i ≤ count → StandsAt setup (at r.bus.untold i) acts
     stands zero early = first
     stands (suc i) early = (takes r.bus.untold i (omega (arith, early)) (stands i (omega (arith, early)))).stands
 
     -- the first, from the run as it was
-    one_first : (untold : List Bool) → 0 < count → TakesBit setup deeds r (at untold 1)
+    one_first : (untold : List Bool) → 0 < count → TakesBit setup acts r (at untold 1)
     one_first untold early =
         let t = takes untold 0 early first in record {
           stands = t.stands;
@@ -160,7 +160,7 @@ module _ (setup : Setup) (r : SerialValue) (deeds : List (List Deed)) (h : Stand
         }
 
     chain : (untold : List Bool) (i : ℕ) → i < count →
-        TakesBits setup deeds (λ x. Unit {0}) r (suc i) (at untold (suc i))
+        TakesBits setup acts (λ x. Unit {0}) r (suc i) (at untold (suc i))
     chain untold zero early = one_more r r (at untold 1) 0 (no_bit r) tt (one_first untold early)
     chain untold (suc i) early =
         one_more r (at r.bus.untold (suc i)) (at untold (suc (suc i))) (suc i)
@@ -169,6 +169,6 @@ module _ (setup : Setup) (r : SerialValue) (deeds : List (List Deed)) (h : Stand
 
     -- all of them, where there are any
     pub all_at_once : (untold : List Bool) (k : ℕ) → count ≡ suc k →
-        TakesBits setup deeds (λ x. Unit {0}) r count (at untold count)
-    all_at_once untold k e = subst (λ (n : ℕ). TakesBits setup deeds (λ x. Unit {0}) r n (at untold n)) (sym e)
+        TakesBits setup acts (λ x. Unit {0}) r count (at untold count)
+    all_at_once untold k e = subst (λ (n : ℕ). TakesBits setup acts (λ x. Unit {0}) r n (at untold n)) (sym e)
         (chain untold k (omega (arith, e)))

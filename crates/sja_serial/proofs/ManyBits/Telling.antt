@@ -1,8 +1,8 @@
 -- Bits of a run up to the first that a port is told of, and one alone where none was run.
 use Rattle.std.proofs.Common.{◌≡◌, ◌<◌, ℕ, List, refl, sym, subst, arith}
-use Rattle.sja_wire.specs.Lawful.{IsBusRun}
+use Rattle.sja_bus_rules.specs.Lawful.{IsBusRun}
 use Rattle.sja_bus.specs.UntilTold.HasBitsMore.{none as none_more}
-use Rattle.sja_driver.specs.Deeds.{Deed}
+use Rattle.sja_driver.specs.TypedActs.{TypedAct}
 use Rattle.sja_serial.specs.Bits.{TakesBit, TakesBits}
 use Rattle.sja_serial.specs.Bits.TakesBits.{no_bit, one_more}
 use Rattle.sja_serial.specs.Serial.{Setup, SerialValue, StandsAt, IsRunOf}
@@ -11,15 +11,15 @@ use Rattle.sja_serial.proofs.ManyBits.SomeBits.{just_one}
 use Rattle.sja_serial.proofs.WholeRun.GoingOn.{stands_bits}
 
 -- where none was run it is the same run
-none_ran : (setup : Setup) (deeds : List (List Deed)) (Before : SerialValue → Type 0) (r m : SerialValue) (run : ℕ) →
-    TakesBits setup deeds Before r run m → run ≡ 0 → m ≡ r
-none_ran setup deeds Before r m run (no_bit _) is_none = refl
-none_ran setup deeds Before r m run (one_more _ mid _ k bits holds bit) is_none = absurd (omega (arith, is_none))
+none_ran : (setup : Setup) (acts : List (List TypedAct)) (Before : SerialValue → Type 0) (r m : SerialValue) (run : ℕ) →
+    TakesBits setup acts Before r run m → run ≡ 0 → m ≡ r
+none_ran setup acts Before r m run (no_bit _) is_none = refl
+none_ran setup acts Before r m run (one_more _ mid _ k bits holds bit) is_none = absurd (omega (arith, is_none))
 
 -- ---- bits up to the first that a port is told of, and one alone where none was run
 
 module _ {setup : Setup} {was mid : SerialValue} {n : ℕ} (run : IsRunOf setup was)
-    (bits : (deeds : List (List Deed)) → StandsAt setup was deeds → TakesUntilTold setup deeds was n mid) where
+    (bits : (acts : List (List TypedAct)) → StandsAt setup was acts → TakesUntilTold setup acts was n mid) where
   pub run_told : IsRunOf setup mid
   run_told = (run.0, stands_bits setup run.0 (NoneTold was) was mid n (bits run.0 run.1) run.1)
 
@@ -35,16 +35,16 @@ module _ {setup : Setup} {was mid : SerialValue} {n : ℕ} (run : IsRunOf setup 
     left_still = subst (λ (x : SerialValue). x.bits < setup.bits) (sym still)
 
     module _ {now : SerialValue}
-        (one : (deeds : List (List Deed)) → StandsAt setup mid deeds → TakesBit setup deeds mid now) where
-      told : (deeds : List (List Deed)) → StandsAt setup was deeds → TakesBit setup deeds was now
-      told = subst (λ (x : SerialValue). (deeds : List (List Deed)) → StandsAt setup x deeds →
-          TakesBit setup deeds x now)
+        (one : (acts : List (List TypedAct)) → StandsAt setup mid acts → TakesBit setup acts mid now) where
+      told : (acts : List (List TypedAct)) → StandsAt setup was acts → TakesBit setup acts was now
+      told = subst (λ (x : SerialValue). (acts : List (List TypedAct)) → StandsAt setup x acts →
+          TakesBit setup acts x now)
           still one
 
-      pub one_told : (deeds : List (List Deed)) → StandsAt setup was deeds →
-          TakesUntilTold setup deeds was 1 now
-      one_told deeds h = just_one setup deeds (NoneTold was) was now
-          (record { ports = refl; journals = λ k less. none_more }) (told deeds h)
+      pub one_told : (acts : List (List TypedAct)) → StandsAt setup was acts →
+          TakesUntilTold setup acts was 1 now
+      one_told acts h = just_one setup acts (NoneTold was) was now
+          (record { ports = refl; journals = λ k less. none_more }) (told acts h)
 
       pub run_one : IsRunOf setup now
       run_one = (run.0, (told run.0 run.1).stands)

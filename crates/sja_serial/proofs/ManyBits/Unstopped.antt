@@ -4,57 +4,58 @@ use Rattle.std.proofs.Common.{ap, ◌∙◌, subst, append_assoc, inl, inr, arit
 use Rattle.std.specs.Prelude.{◌⊎◌, None, slice_index_or}
 use Rattle.std.proofs.lemmas.Bool.{cases_lt}
 use Rattle.std.proofs.lemmas.List.{length-append, length-replicate}
-use Rattle.can_bits.specs.declared.level.Level.TheVariants.{Recessive}
-use Rattle.sja_link.specs.NodeWords.{received}
-use Rattle.sja_link.specs.declared.down.Down.{Down}
-use Rattle.sja_link.specs.declared.up.Up.{Up}
-use Rattle.sja_link.specs.declared.entry.Entry.{Entry}
-use Rattle.sja_link.specs.declared.entry.Entry.TheVariants.{Bit, Abort}
-use Rattle.sja_link.specs.Accounts.{Account, account}
+use Rattle.can_levels.specs.declared.level.Level.TheVariants.{Recessive}
+use Rattle.sja_journal.specs.NodeWords.{received}
+use Rattle.sja_journal.specs.declared.down.Down.{Down}
+use Rattle.sja_journal.specs.declared.up.Up.{Up}
+use Rattle.sja_journal.specs.declared.entry.Entry.{Entry}
+use Rattle.sja_journal.specs.declared.entry.Entry.TheVariants.{Bit, Abort}
+use Rattle.sja_journal.specs.Accounts.{Account, account}
 use Rattle.sja_link.specs.Deques.{Deques, IsAside, Lies, queues_on, up_on}
-use Rattle.sja_link.specs.OutOfOrder.{read_in}
-use Rattle.sja_link.specs.Lists.{Lists}
+use Rattle.sja_journal.specs.OutOfOrder.{read_in}
+use Rattle.sja_journal.specs.Lists.{Lists}
 use Rattle.sja_link.specs.Looking.{one_if}
-use Rattle.sja_link.specs.Parts.{entry_at, part}
-use Rattle.sja_link.specs.Carried.{taken_of}
-use Rattle.sja_link.specs.Places.{place_of}
-use Rattle.sja_link.proofs.JournalEntries.Entering.{bits_counted}
+use Rattle.sja_journal.specs.Parts.{entry_at, part}
+use Rattle.sja_journal.specs.Carried.{taken_of}
+use Rattle.sja_journal.specs.Places.{place_of}
+use Rattle.sja_journal.proofs.JournalEntries.Entering.{bits_counted}
 use Rattle.sja_regs.specs.declared.orders.Orders.{Orders}
 use Rattle.sja_regs.specs.declared.registers.Registers.{Registers}
 use Rattle.sja_regs.specs.Registers.{at_power_on}
-use Rattle.sja_wire.specs.declared.bus_fault.BusFault.{BusFault}
-use Rattle.sja_wire.specs.declared.bus_fault.BusFault.TheVariants.{BitsSpent, BadCredit, Stuck, BadOrder, JournalFull}
-use Rattle.sja_wire.specs.Buses.{BusValue}
-use Rattle.sja_wire.specs.Lawful.{IsBusRun}
-use Rattle.sja_link.specs.Links.{Kept, stops_of}
-use Rattle.sja_link.specs.BitEntries.{MayHaveItems, abort_as}
-use Rattle.sja_link.specs.Written.{room_in, IsFullFor}
-use Rattle.sja_link.proofs.JournalEntries.Rooms.{HasFree, free_aborted, free_not_full}
+use Rattle.sja_journal.specs.declared.bus_fault.BusFault.{BusFault}
+use Rattle.sja_journal.specs.declared.bus_fault.BusFault.TheVariants.{BitsSpent, BadCredit, Stuck, BadOrder}
+use Rattle.sja_journal.specs.declared.bus_fault.BusFault.TheVariants.{JournalFull}
+use Rattle.sja_bus_rules.specs.Buses.{BusValue}
+use Rattle.sja_bus_rules.specs.Lawful.{IsBusRun}
+use Rattle.sja_journal.specs.Links.{Kept, stops_of}
+use Rattle.sja_journal.specs.BitEntries.{MayHaveItems, abort_as}
+use Rattle.sja_journal.specs.Written.{room_in, IsFullFor}
+use Rattle.sja_journal.proofs.JournalEntries.Rooms.{HasFree, free_aborted, free_not_full}
 use Rattle.sja_bus.proofs.ItemsTaken.OutOfRoom.{short_never}
-use Rattle.sja_wire.specs.Reasons.{GivesBack, IsTakenAndRefused, IsNotAborted, IsBrokenOff, IsBrokenFor, StopsBit}
-use Rattle.sja_wire.specs.Reasons.{room_for}
-use Rattle.sja_wire.specs.Reasons.StopsBit.{spent, not_taken, not_aborted, broken_off}
+use Rattle.sja_bus_rules.specs.Reasons.{GivesBack, IsTakenAndRefused, IsNotAborted, IsBrokenOff, IsBrokenFor, StopsBit}
+use Rattle.sja_bus_rules.specs.Reasons.{room_for}
+use Rattle.sja_bus_rules.specs.Reasons.StopsBit.{spent, not_taken, not_aborted, broken_off}
 use Rattle.sja_bus.specs.Stretches.{recessive_bits, IsFullInStretch}
-use Rattle.sja_wire.specs.Wire.{journal_at}
+use Rattle.sja_bus_rules.specs.Wire.{journal_at}
 use Rattle.sja_driver.specs.declared.logged_driver.LoggedDriver.{LoggedDriver}
-use Rattle.sja_driver.specs.Deeds.{Deed, given_in, deeds_of, deeds_at, is_active}
+use Rattle.sja_driver.specs.TypedActs.{TypedAct, given_in, acts_of, acts_at, is_active}
 use Rattle.sja_driver.specs.AnyDrivers.{held_of}
 use Rattle.sja_driver.specs.LoggedDrivers.{driver_of, log_of}
 use Rattle.sja_driver.specs.Logs.{left_in, leaves, released_of, releases_in}
 use Rattle.sja_driver.proofs.Trace.Stepping.{given_taken}
-use Rattle.sja_log.specs.Nodes.{IsNode}
+use Rattle.sja_promises.specs.Nodes.{IsNode}
 use Rattle.sja_serial.specs.Serial.{Setup, SerialValue, StandsAt, IsRunOf}
-use Rattle.sja_serial.specs.Inside.Going.{run_now}
+use Rattle.sja_serial.specs.Inside.SerialProgress.{run_now}
 use Rattle.sja_driver.proofs.Account.Dry.{none_beyond, none_taken, none_taken_own}
 use Rattle.sja_driver.proofs.Step.FewLeftDown.{few_left_down}
 use Rattle.sja_driver.proofs.Account.Own.{AreOwn, own_stopped}
 use Rattle.sja_serial.proofs.ManyBits.Borrowed.{stands_there, left_there, lawful_there}
 use Rattle.sja_driver.proofs.OneNode.Room.{has_room}
 use Rattle.lemmas.proofs.Lists.{none_back, some_of}
-use Rattle.sja_link.proofs.JournalEntries.Entering.{of_part_later}
-use Rattle.sja_link.proofs.JournalEntries.Openings.{Opens, part_opens}
+use Rattle.sja_journal.proofs.JournalEntries.Entering.{of_part_later}
+use Rattle.sja_journal.proofs.JournalEntries.Openings.{Opens, part_opens}
 use Rattle.sja_link.proofs.QueuedLinks.Ends.{ends}
-use Rattle.sja_link.proofs.Growing.Taking.{adds, some_none}
+use Rattle.sja_journal.proofs.Growing.Taking.{adds, some_none}
 use Rattle.sja_link.proofs.Growing.Ordered.{no_off_put}
 
 abort_own : (changed : Bool) → AreOwn (abort_as changed)
@@ -69,7 +70,7 @@ one_most false = omega arith
 start_first : {p : List Entry} → Opens p → taken_of p ≡ [] → ⊥
 start_first o none = let e = ap taken_of (sym o.opens) ∙ none in cc
 
-module _ (setup : Setup) (r : SerialValue) (deeds : List (List Deed)) (h : StandsAt setup r deeds)
+module _ (setup : Setup) (r : SerialValue) (acts : List (List TypedAct)) (h : StandsAt setup r acts)
     (left : r.bits < setup.bits)
     (was : IsBusRun r.bus.script r.bus.run r.bus.journals) where
   module _ (m : ℕ) (few : m < length r.bus.journals) where
@@ -82,26 +83,26 @@ module _ (setup : Setup) (r : SerialValue) (deeds : List (List Deed)) (h : Stand
     links : Deques
     links = some_of r.links m (let c = h.ends.count in let l = less in omega (arith, c, l))
 
-    node : IsNode setup.version (slice_index_or setup.steps m 0) (journal_at r.bus.journals m) (deeds_at deeds m)
+    node : IsNode setup.version (slice_index_or setup.steps m 0) (journal_at r.bus.journals m) (acts_at acts m)
         (slice_index_or r.drivers m driver) (slice_index_or r.ports m (at_power_on setup.version))
         (slice_index_or r.links m links)
     node = h.nodes m driver (at_power_on setup.version) links less
 
     abbrev acc : ℕ → Account
-    acc a = record { got = node.linked.holds.got a; given = given_in (deeds_of (deeds_at deeds m) (suc a)) }
+    acc a = record { got = node.linked.holds.got a; given = given_in (acts_of (acts_at acts m) (suc a)) }
 
     kept_before : Kept Lies (journal_at r.bus.journals m) (slice_index_or r.links m links) acc
     kept_before = node.linked.holds.kept
 
     abbrev given : ℕ → List Up
-    given a = given_in (deeds_of (deeds_at deeds m) (suc a))
+    given a = given_in (acts_of (acts_at acts m) (suc a))
 
     before : (a : ℕ) → given a ≡ taken_of (part (journal_at r.bus.journals m) (suc a))
-    before a = given_taken (deeds_at deeds m) (journal_at r.bus.journals m) (suc a) (node.in_time.when (suc a))
+    before a = given_taken (acts_at acts m) (journal_at r.bus.journals m) (suc a) (node.in_time.when (suc a))
 
     entries : HasFree 4 (room_in r.bus.run (slice_index_or setup.steps m 0)) (journal_at r.bus.journals m)
     entries =
-        let j = journal_at r.bus.journals m in let ds = deeds_at deeds m in
+        let j = journal_at r.bus.journals m in let ds = acts_at acts m in
         let within = node.traced.within in
         let bits : (place_of j).bits ≡ r.bus.run = bits_counted j ∙ was.wired.count m few in
         has_room j ds (slice_index_or r.ports m (at_power_on setup.version)) r.bus.run
@@ -134,7 +135,7 @@ module _ (setup : Setup) (r : SerialValue) (deeds : List (List Deed)) (h : Stand
         start_first o (ap (λ (l : Lists). l.taken) ((b.stood acc kept (stops_of j)).later beyond))
     in_use opened j end same b kept (inl gone) =
         let ended = node.linked.level.ended in let begun = node.linked.level.begun in
-        let one = one_most (is_active (deeds_at deeds m)) in let stops = b.ended in
+        let one = one_most (is_active (acts_at acts m)) in let stops = b.ended in
         let s = b.last in let are = (b.stood acc kept (stops_of j)).links in let few = are.few in
         let many = are.many in let some : 0 < length s.others = omega (arith, many, gone, few) in
         let n = s.first + length s.others - 2 in
@@ -159,7 +160,7 @@ module _ (setup : Setup) (r : SerialValue) (deeds : List (List Deed)) (h : Stand
 
         too_few : length (queues_on b.last (read_in j)).down ≡ 22 → ⊥
         too_few full =
-            let ds = deeds_at deeds m in let d = slice_index_or r.drivers m driver in let a = stops_of j in
+            let ds = acts_at acts m in let d = slice_index_or r.drivers m driver in let a = stops_of j in
             let q = queues_on b.last (suc a) in let got = node.linked.holds.got a in
             let lies : Lies b.last (suc a) (account j (suc a) (acc a)) = b.stood acc kept a in
             let few = few_left_down j (suc a) (received b.found) ds got q.down (up_on b.last (suc a))

@@ -4,7 +4,7 @@ use Rattle.std.specs.Prelude.{slice_index_or, slice_set}
 use Rattle.lemmas.specs.Related.{EachRelated}
 use Rattle.lemmas.proofs.Related.{each_at, each_one, each_trans}
 use Rattle.sja_link.specs.Deques.{Deques, AreAlike}
-use Rattle.sja_link.specs.Links.{AreEnds, HaveLinks}
+use Rattle.sja_journal.specs.Links.{AreEnds, HaveLinks}
 use Rattle.sja_driver.proofs.OneNode.Slices.{ends_still}
 
 pub alike_refl : (s : Deques) → AreAlike s s

@@ -1,39 +1,39 @@
 -- A run in which the next step of a node's driver is tried, and what it gave is taken.
-use Rattle.sja_script.specs.declared.step_answer.StepAnswer.{StepAnswer}
+use Rattle.sja_steps.specs.declared.step_answer.StepAnswer.{StepAnswer}
 use Rattle.std.proofs.Common.{◌≡◌, ◌+◌, ◌<◌, ℕ, List, [], length, refl, sym, subst, arith}
 use Rattle.std.specs.Prelude.{None, slice_index_or, slice_set, Option}
 use Rattle.std.proofs.lemmas.List.{get_or_default}
-use Rattle.sja_link.specs.declared.entry.Entry.{Entry}
+use Rattle.sja_journal.specs.declared.entry.Entry.{Entry}
 use Rattle.sja_link.specs.Deques.{Deques, Lies, AreAlike, up_on}
 use Rattle.lemmas.proofs.Related.{each_one, each_refl}
-use Rattle.sja_link.specs.Links.{AreEnds, HaveLinks}
-use Rattle.sja_link.specs.Sizes.{most_activations}
+use Rattle.sja_journal.specs.Links.{AreEnds, HaveLinks}
+use Rattle.sja_journal.specs.Sizes.{most_activations}
 use Rattle.lemmas.specs.Related.{EachRelated}
 use Rattle.sja_regs.specs.declared.registers.Registers.{Registers}
-use Rattle.sja_script.specs.declared.step.Step.{Step}
-use Rattle.sja_wire.specs.declared.bus_fault.BusFault.{BusFault}
-use Rattle.sja_wire.specs.Lawful.{IsBusRun}
-use Rattle.sja_link.specs.BitEntries.{MayHaveItems}
-use Rattle.sja_wire.specs.Wire.{journal_at}
-use Rattle.sja_wire.specs.Buses.{BusValue, KeepsAll, EachJournal, AllDry, EachUntold, untold_at}
-use Rattle.sja_wire.specs.Reasons.{IsTakenAndRefused}
+use Rattle.sja_steps.specs.declared.step.Step.{Step}
+use Rattle.sja_journal.specs.declared.bus_fault.BusFault.{BusFault}
+use Rattle.sja_bus_rules.specs.Lawful.{IsBusRun}
+use Rattle.sja_journal.specs.BitEntries.{MayHaveItems}
+use Rattle.sja_bus_rules.specs.Wire.{journal_at}
+use Rattle.sja_bus_rules.specs.Buses.{BusValue, KeepsAll, EachJournal, AllDry, EachUntold, untold_at}
+use Rattle.sja_bus_rules.specs.Reasons.{IsTakenAndRefused}
 use Rattle.sja_driver.specs.declared.logged_driver.LoggedDriver.{LoggedDriver}
-use Rattle.sja_driver.specs.Deeds.{Deed, deeds_at}
+use Rattle.sja_driver.specs.TypedActs.{TypedAct, acts_at}
 use Rattle.sja_driver.specs.LoggedDrivers.{log_of, MayStep, StaysLawful}
 use Rattle.sja_driver.specs.Logs.{HasRoom}
-use Rattle.sja_driver.specs.Inside.GivenNothing.{GaveNothing}
-use Rattle.sja_log.specs.Nodes.{IsNode}
+use Rattle.sja_driver.specs.GivenNothing.{GaveNothing}
+use Rattle.sja_promises.specs.Nodes.{IsNode}
 use Rattle.sja_serial.specs.Serial.{Setup, SerialValue, StandsAt}
-use Rattle.sja_serial.specs.Inside.Going.{run_now}
+use Rattle.sja_serial.specs.Inside.SerialProgress.{run_now}
 use Rattle.sja_serial.proofs.ManyBits.Borrowed.{stands_there, put_back}
-use Rattle.sja_link.proofs.Growing.Items.{items_none}
+use Rattle.sja_journal.proofs.Growing.Items.{items_none}
 use Rattle.sja_serial.proofs.OneNode.Quiet.{as_untold, all_dry}
 use Rattle.sja_serial.proofs.OneNode.Standing.{Tries, node_there, same_node}
 use Rattle.sja_serial.proofs.OneNode.Tried.{IsTried, next_tried, place}
 use Rattle.sja_serial.proofs.OneNode.Taken.{gather_takes}
 use Rattle.sja_link.proofs.QueuedLinks.Ends.{ends}
 use Rattle.sja_serial.proofs.OneNode.Alike.{alike_refl, links_are, still_ends, still_starts}
-use Rattle.sja_log.proofs.OneNode.Trying.{StepsHere}
+use Rattle.sja_promises.proofs.OneNode.Trying.{StepsHere}
 
 -- the registers that a step was tried at, and the step at what they are
 abbrev pub tried_at : {was now : LoggedDriver} {old given : Deques} {p q : Registers} {one : Step}
@@ -46,16 +46,16 @@ pub at_port : {was now : LoggedDriver} {old given : Deques} {p r q : Registers} 
 at_port {was} {now} {old} {given} {p} {r} {q} {one} {answer} same tries =
     subst (λ (x : Registers). StepsHere was now old given x q one answer) same tries
 
--- a run, which stands at these deeds, and the links of which a call has as a slice
+-- a run, which stands at these acts, and the links of which a call has as a slice
 module _ {setup : Setup} {bus : BusValue} {drivers : List LoggedDriver} {ports : List Registers}
     {slice links : List Deques} {bits : ℕ} {self : SerialValue} (same : slice ≡ links)
-    (view : run_now bus drivers ports links bits ≡ self) {deeds : List (List Deed)} (h : StandsAt setup self deeds)
+    (view : run_now bus drivers ports links bits ≡ self) {acts : List (List TypedAct)} (h : StandsAt setup self acts)
     {i : ℕ} (there : i < setup.nodes) where
   abbrev run : SerialValue
   run = run_now bus drivers ports slice bits
 
-  stood : StandsAt setup run deeds
-  stood = stands_there same view setup deeds h
+  stood : StandsAt setup run acts
+  stood = stands_there same view setup acts h
 
   -- its links are there
   pub own_links : (x : Deques) → slice_index_or slice i x ≡ slice_index_or slice i (slice_index_or slice i x)
@@ -65,12 +65,12 @@ module _ {setup : Setup} {bus : BusValue} {drivers : List LoggedDriver} {ports :
   -- its driver, its port, and its links
   module _ {was : LoggedDriver} {p : Registers} {old : Deques} (was_is : was ≡ slice_index_or drivers i was)
       (p_is : p ≡ slice_index_or ports i p) (old_is : old ≡ slice_index_or slice i old) where
-    pub node_at : IsNode setup.version (slice_index_or setup.steps i 0) (journal_at bus.journals i) (deeds_at deeds i)
+    pub node_at : IsNode setup.version (slice_index_or setup.steps i 0) (journal_at bus.journals i) (acts_at acts i)
         was p old
     node_at = node_there stood there was_is p_is old_is
 
     -- the next step may be tried, where there is room for it
-    pub may_step : length (deeds_at deeds i) < slice_index_or setup.steps i 0 →
+    pub may_step : length (acts_at acts i) < slice_index_or setup.steps i 0 →
         MayStep (λ (s : Deques). s.node) p.version was old
     may_step few = let n = node_at in record {
       lawful = n.traced.lawful;
@@ -104,7 +104,7 @@ module _ {setup : Setup} {bus : BusValue} {drivers : List LoggedDriver} {ports :
 
     -- the next step was tried, and then all was taken
     module _ (laws : bus.fault ≡ None → IsBusRun bus.script bus.run bus.journals)
-        (left : length (deeds_at deeds i) < slice_index_or setup.steps i 0) {now : LoggedDriver} {q : Registers}
+        (left : length (acts_at acts i) < slice_index_or setup.steps i 0) {now : LoggedDriver} {q : Registers}
         {given : Deques} {one : Step} {answer : Option StepAnswer}
         (steps : StepsHere was now old given p q one answer)
         (stays : StaysLawful AreAlike Lies was now old given answer) where
@@ -120,11 +120,11 @@ module _ {setup : Setup} {bus : BusValue} {drivers : List LoggedDriver} {ports :
       -- the run into which the links are put back
       module _ {node : ℕ} (node_is : i ≡ node) {back after : List Deques} (back_is : back ≡ after) where
         tried : (n : BusValue) → Tries run i was now p q one answer old given n after →
-            IsTried setup self (run_now n (slice_set drivers i now) (slice_set ports i q) back bits) node one deeds
+            IsTried setup self (run_now n (slice_set drivers i now) (slice_set ports i q) back bits) node one acts
             answer
         tried n t = subst (λ (m : ℕ). IsTried setup self (run_now n (slice_set drivers i now) (slice_set ports i q)
-            back bits) m one deeds answer) node_is
-            (put_back same view (λ x y. IsTried setup x y i one deeds answer) n (slice_set drivers i now)
+            back bits) m one acts answer) node_is
+            (put_back same view (λ x y. IsTried setup x y i one acts answer) n (slice_set drivers i now)
             (slice_set ports i q)
             after back bits back_is (next_tried stood there (laws stood.right) left answer t))
 
@@ -135,7 +135,7 @@ module _ {setup : Setup} {bus : BusValue} {drivers : List LoggedDriver} {ports :
             EachUntold bus.untold n.untold bus.journals n.journals →
             AllDry (λ (s : Deques) (a : ℕ). up_on s a ≡ []) n.journals after →
             EachRelated AreAlike (slice_set slice i given) after →
-            IsTried setup self (run_now n (slice_set drivers i now) (slice_set ports i q) back bits) node one deeds
+            IsTried setup self (run_now n (slice_set drivers i now) (slice_set ports i q) back bits) node one acts
             answer
         is_tried n right ran script starts room over count kept items untold dry sames = tried n (record {
           was_is = was_is;
@@ -160,7 +160,7 @@ module _ {setup : Setup} {bus : BusValue} {drivers : List LoggedDriver} {ports :
       -- the step gave nothing, and nothing was taken
       pub is_tried_quietly : {node : ℕ} → i ≡ node → {back : List Deques} → back ≡ slice_set slice i given →
           GaveNothing one answer →
-          IsTried setup self (run_now bus (slice_set drivers i now) (slice_set ports i q) back bits) node one deeds
+          IsTried setup self (run_now bus (slice_set drivers i now) (slice_set ports i q) back bits) node one acts
           answer
       is_tried_quietly node_is back_is quiet =
           is_tried node_is back_is bus stood.right refl refl refl refl refl refl (λ node d acc less kept. kept)

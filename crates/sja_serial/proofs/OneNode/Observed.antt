@@ -5,39 +5,39 @@ use Rattle.std.specs.Prelude.{slice_index_or, slice_set, None}
 use Rattle.std.proofs.lemmas.Bool.{cases_eq}
 use Rattle.std.proofs.lemmas.List.{get_or-set_same, get_or-set_other, length-set}
 use Rattle.lemmas.proofs.Related.{each_one}
-use Rattle.sja_link.specs.declared.entry.Entry.{Entry}
-use Rattle.sja_link.specs.Sizes.{most_activations}
+use Rattle.sja_journal.specs.declared.entry.Entry.{Entry}
+use Rattle.sja_journal.specs.Sizes.{most_activations}
 use Rattle.sja_link.specs.Deques.{Deques, Lies, AreAlike, IsDryDown}
-use Rattle.sja_link.specs.Lists.{OthersStand}
-use Rattle.sja_wire.specs.Lawful.{IsBusRun}
-use Rattle.sja_wire.specs.Wire.{journal_at}
-use Rattle.sja_wire.specs.Buses.{BusValue}
+use Rattle.sja_journal.specs.Lists.{OthersStand}
+use Rattle.sja_bus_rules.specs.Lawful.{IsBusRun}
+use Rattle.sja_bus_rules.specs.Wire.{journal_at}
+use Rattle.sja_bus_rules.specs.Buses.{BusValue}
 use Rattle.sja_regs.specs.declared.registers.Registers.{Registers}
-use Rattle.sja_script.specs.declared.step.Step.TheVariants.{Read}
+use Rattle.sja_steps.specs.declared.step.Step.TheVariants.{Read}
 use Rattle.sja_driver.specs.declared.any_driver.AnyDriver.{AnyDriver}
 use Rattle.sja_driver.specs.declared.any_driver.AnyDriver.TheVariants.{InReset, InActive}
 use Rattle.sja_driver.specs.declared.logged_driver.LoggedDriver.{LoggedDriver}
 use Rattle.sja_driver.specs.AnyDrivers.{held_of, is_out, link_used, off_of, seen_by, IsDriverOf}
-use Rattle.sja_driver.specs.Deeds.{Deed, deeds_at, is_active}
+use Rattle.sja_driver.specs.TypedActs.{TypedAct, acts_at, is_active}
 use Rattle.sja_driver.specs.Holding.{HoldsBy}
 use Rattle.sja_driver.specs.LoggedDrivers.{node_of, driver_of, log_of, ended_of, StaysLawful}
 use Rattle.sja_driver.specs.declared.work_log.WorkLog.{WorkLog}
 use Rattle.sja_driver.specs.Logs.{Traces, release_room, left_room}
 use Rattle.sja_driver.specs.Observing.{Looked, Observes}
-use Rattle.sja_log.specs.Registering.{seen_now}
-use Rattle.sja_log.proofs.Account.Seeing.{seen_shown}
+use Rattle.sja_promises.specs.Registering.{seen_now}
+use Rattle.sja_promises.proofs.Account.Seeing.{seen_shown}
 use Rattle.sja_driver.proofs.Trace.Stepping.{given_taken}
-use Rattle.sja_log.specs.Nodes.{IsNode}
+use Rattle.sja_promises.specs.Nodes.{IsNode}
 use Rattle.sja_serial.specs.Serial.{Setup, StandsAt}
-use Rattle.sja_serial.specs.Inside.Going.{run_now}
-use Rattle.sja_log.proofs.OneNode.Gathered.{linked_after, node_with}
+use Rattle.sja_serial.specs.Inside.SerialProgress.{run_now}
+use Rattle.sja_promises.proofs.OneNode.Gathered.{linked_after, node_with}
 use Rattle.sja_serial.proofs.OneNode.Standing.{owners}
 use Rattle.sja_serial.proofs.OneNode.Alike.{alike_refl, still_ends, still_starts}
-use Rattle.sja_log.proofs.OneNode.StepTried.{looked}
+use Rattle.sja_promises.proofs.OneNode.StepTried.{looked}
 
 module _ {setup : Setup} {bus : BusValue} {drivers : List LoggedDriver} {ports : List Registers}
-    {slice : List Deques} {bits : ℕ} {deeds : List (List Deed)}
-    (h : StandsAt setup (run_now bus drivers ports slice bits) deeds) {i : ℕ} (there : i < setup.nodes)
+    {slice : List Deques} {bits : ℕ} {acts : List (List TypedAct)}
+    (h : StandsAt setup (run_now bus drivers ports slice bits) acts) {i : ℕ} (there : i < setup.nodes)
     {was now : LoggedDriver} (was_is : was ≡ slice_index_or drivers i was)
     {old given : Deques} (old_is : old ≡ slice_index_or slice i old)
     (observed : Looked Lies IsDryDown was now old given)
@@ -45,8 +45,8 @@ module _ {setup : Setup} {bus : BusValue} {drivers : List LoggedDriver} {ports :
   abbrev j : List Entry
   j = journal_at bus.journals i
 
-  abbrev ds : List Deed
-  ds = deeds_at deeds i
+  abbrev ds : List TypedAct
+  ds = acts_at acts i
 
   abbrev after : List Deques
   after = slice_set slice i given
@@ -66,7 +66,7 @@ module _ {setup : Setup} {bus : BusValue} {drivers : List LoggedDriver} {ports :
       ((observed.goes setup.version).traces ds (stood p).traced.traces)
 
   holds : (p : Registers) → HoldsBy Lies ds (driver_of now) (log_of now) j given
-  holds p = subst (λ (l : List Deed). HoldsBy Lies l (driver_of now) (log_of now) j given) (append-nil ds)
+  holds p = subst (λ (l : List TypedAct). HoldsBy Lies l (driver_of now) (log_of now) j given) (append-nil ds)
       ((observed.goes setup.version).holds ds j (stood p).traced.traces (stood p).linked.holds)
 
   node_now : (p : Registers) → IsNode setup.version (slice_index_or setup.steps i 0) j ds now
@@ -91,11 +91,11 @@ module _ {setup : Setup} {bus : BusValue} {drivers : List LoggedDriver} {ports :
   links_inside = let c = h.ends.count in omega (arith, c, there)
 
   node_at : (m : ℕ) (d : LoggedDriver) (p : Registers) (l : Deques) → m < setup.nodes →
-      IsNode setup.version (slice_index_or setup.steps m 0) (journal_at bus.journals m) (deeds_at deeds m)
+      IsNode setup.version (slice_index_or setup.steps m 0) (journal_at bus.journals m) (acts_at acts m)
       (slice_index_or (slice_set drivers i now) m d) (slice_index_or ports m p) (slice_index_or after m l)
   node_at m d p l less =
       let N : ℕ → LoggedDriver → Deques → Type 0 = λ k x s. IsNode setup.version (slice_index_or setup.steps k 0)
-      (journal_at bus.journals k) (deeds_at deeds k) x (slice_index_or ports k p) s in
+      (journal_at bus.journals k) (acts_at acts k) x (slice_index_or ports k p) s in
       elim (cases_eq i m) [
         | inl e ↦
             let P : ℕ → Type 0 = λ k. N k (slice_index_or (slice_set drivers i now) k d) (slice_index_or after k l) in
@@ -108,7 +108,7 @@ module _ {setup : Setup} {bus : BusValue} {drivers : List LoggedDriver} {ports :
             (h.nodes m d p l less))
       ]
 
-  pub stands : StandsAt setup (run_now bus (slice_set drivers i now) ports after bits) deeds
+  pub stands : StandsAt setup (run_now bus (slice_set drivers i now) ports after bits) acts
   stands =
       let sames = each_one AreAlike alike_refl slice i old given links_inside
       (subst (λ (s : Deques). AreAlike s given) old_is stays.same) in record {
@@ -121,7 +121,7 @@ module _ {setup : Setup} {bus : BusValue} {drivers : List LoggedDriver} {ports :
           drivers = length-set drivers i now ∙ h.count.drivers;
           ports = h.count.ports;
         };
-        deeds_count = h.deeds_count;
+        acts_count = h.acts_count;
         may = h.may;
         steps = h.steps;
         links = h.links;

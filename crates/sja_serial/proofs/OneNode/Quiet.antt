@@ -1,49 +1,49 @@
 -- A step that gave nothing: no link has anything for the bus after it.
-use Rattle.sja_script.specs.declared.step_answer.StepAnswer.{StepAnswer}
+use Rattle.sja_steps.specs.declared.step_answer.StepAnswer.{StepAnswer}
 use Rattle.std.proofs.Common.{◌≡◌, ℕ, suc, ◌<◌, Bool, List, [], ◌++◌, length, refl, sym, ap, ◌∙◌, subst}
 use Rattle.std.proofs.Common.{append-nil, arith, inl, inr}
 use Rattle.std.specs.Prelude.{slice_index_or, slice_set, Option}
 use Rattle.std.proofs.lemmas.Bool.{cases_eq}
 use Rattle.std.proofs.lemmas.List.{append_cancel_left, get_or-set_same, get_or-set_other}
-use Rattle.sja_link.specs.declared.entry.Entry.{Entry}
-use Rattle.sja_link.specs.declared.up.Up.{Up}
-use Rattle.sja_link.specs.Accounts.{account}
+use Rattle.sja_journal.specs.declared.entry.Entry.{Entry}
+use Rattle.sja_journal.specs.declared.up.Up.{Up}
+use Rattle.sja_journal.specs.Accounts.{account}
 use Rattle.sja_link.specs.Deques.{Deques, Lies, AreAlike, up_on}
-use Rattle.sja_link.specs.Lists.{Lists}
-use Rattle.sja_wire.specs.Buses.{AllDry}
-use Rattle.sja_link.specs.Links.{stops_of}
-use Rattle.sja_wire.specs.Telling.{IsUntold}
-use Rattle.sja_wire.specs.Wire.{journal_at}
+use Rattle.sja_journal.specs.Lists.{Lists}
+use Rattle.sja_bus_rules.specs.Buses.{AllDry}
+use Rattle.sja_journal.specs.Links.{stops_of}
+use Rattle.sja_bus_rules.specs.Telling.{IsUntold}
+use Rattle.sja_bus_rules.specs.Wire.{journal_at}
 use Rattle.sja_regs.specs.declared.registers.Registers.{Registers}
-use Rattle.sja_script.specs.declared.step.Step.{Step}
+use Rattle.sja_steps.specs.declared.step.Step.{Step}
 use Rattle.sja_driver.specs.declared.logged_driver.LoggedDriver.{LoggedDriver}
-use Rattle.sja_driver.specs.Deeds.{Deed, deeds_at, given_in, deeds_of}
+use Rattle.sja_driver.specs.TypedActs.{TypedAct, acts_at, given_in, acts_of}
 use Rattle.sja_driver.specs.Acting.{with_both}
 use Rattle.sja_driver.specs.AnyDrivers.{link_used}
 use Rattle.sja_driver.specs.LoggedDrivers.{driver_of, StaysLawful}
 use Rattle.sja_driver.specs.Tries.{gave_by}
-use Rattle.sja_log.specs.Nodes.{IsNode}
+use Rattle.sja_promises.specs.Nodes.{IsNode}
 use Rattle.sja_serial.specs.Serial.{Setup, SerialValue, StandsAt}
 use Rattle.sja_driver.proofs.Trace.Stepping.{given_taken}
-use Rattle.sja_log.proofs.OneNode.Trying.{StepsHere}
+use Rattle.sja_promises.proofs.OneNode.Trying.{StepsHere}
 
 pub as_untold : (b : Bool) (j : List Entry) → IsUntold b b j j
 as_untold b j = record { stays = λ e. e; takes = λ differ. absurd (differ refl); none = λ e same. e }
 
-module _ {setup : Setup} {r : SerialValue} {deeds : List (List Deed)} (i : ℕ) (stood : StandsAt setup r deeds)
+module _ {setup : Setup} {r : SerialValue} {acts : List (List TypedAct)} (i : ℕ) (stood : StandsAt setup r acts)
     {was now : LoggedDriver} {p q : Registers} {old given : Deques} {one : Step} {answer : Option StepAnswer}
-    (node : IsNode setup.version (slice_index_or setup.steps i 0) (journal_at r.bus.journals i) (deeds_at deeds i) was
+    (node : IsNode setup.version (slice_index_or setup.steps i 0) (journal_at r.bus.journals i) (acts_at acts i) was
     p old)
     (st : StepsHere was now old given p q one answer)
     (stays : StaysLawful AreAlike Lies was now old given answer)
     (quiet : gave_by p one st.tried ≡ []) where
   abbrev lists : ℕ → Lists
   lists a = account (journal_at r.bus.journals i) (suc a)
-      (record { got = node.linked.holds.got a; given = given_in (deeds_of (deeds_at deeds i) (suc a)) })
+      (record { got = node.linked.holds.got a; given = given_in (acts_of (acts_at acts i) (suc a)) })
 
   -- all that was given was taken
   all_taken : (a : ℕ) → (lists a).given ≡ (lists a).taken
-  all_taken a = given_taken (deeds_at deeds i) (journal_at r.bus.journals i) (suc a) (node.in_time.when (suc a))
+  all_taken a = given_taken (acts_at acts i) (journal_at r.bus.journals i) (suc a) (node.in_time.when (suc a))
 
   -- so nothing lies on the link that the step was tried at, which took no item more
   here : (a : ℕ) → suc a ≡ link_used (driver_of was) → up_on given (suc a) ≡ []

@@ -1,33 +1,33 @@
 -- A run after a step of one node's driver and a taking.
-use Rattle.sja_script.specs.declared.step_answer.StepAnswer.{StepAnswer}
+use Rattle.sja_steps.specs.declared.step_answer.StepAnswer.{StepAnswer}
 use Rattle.std.proofs.Common.{◌≡◌, ℕ, ◌<◌, true, false, List, [], ◌∷◌}
 use Rattle.std.proofs.Common.{◌++◌, length, refl, sym, ap, ◌∙◌, subst, append-nil, arith, inl, inr}
 use Rattle.std.specs.Prelude.{Bool, None, slice_index_or, slice_set, Option}
 use Rattle.std.proofs.lemmas.Bool.{cases_eq}
 use Rattle.std.proofs.lemmas.List.{get_or_default, get_or-set_same, get_or-set_other, length-set}
-use Rattle.sja_link.specs.declared.entry.Entry.{Entry}
-use Rattle.sja_link.specs.declared.up.Up.{Up}
+use Rattle.sja_journal.specs.declared.entry.Entry.{Entry}
+use Rattle.sja_journal.specs.declared.up.Up.{Up}
 use Rattle.sja_link.specs.Deques.{Deques, Lies, AreAlike, up_on}
-use Rattle.sja_wire.specs.Buses.{BusValue, KeepsAll, EachJournal, AllDry, EachUntold, untold_at}
-use Rattle.sja_link.specs.BitEntries.{MayHaveItems, entries_of_items}
-use Rattle.sja_link.specs.Links.{Kept}
-use Rattle.sja_link.specs.Sizes.{most_activations}
-use Rattle.sja_wire.specs.Telling.{IsUntold}
-use Rattle.sja_wire.specs.Wire.{journal_at}
+use Rattle.sja_bus_rules.specs.Buses.{BusValue, KeepsAll, EachJournal, AllDry, EachUntold, untold_at}
+use Rattle.sja_journal.specs.BitEntries.{MayHaveItems, entries_of_items}
+use Rattle.sja_journal.specs.Links.{Kept}
+use Rattle.sja_journal.specs.Sizes.{most_activations}
+use Rattle.sja_bus_rules.specs.Telling.{IsUntold}
+use Rattle.sja_bus_rules.specs.Wire.{journal_at}
 use Rattle.lemmas.specs.Related.{EachRelated}
 use Rattle.sja_regs.specs.declared.registers.Registers.{Registers}
-use Rattle.sja_script.specs.declared.step.Step.{Step}
+use Rattle.sja_steps.specs.declared.step.Step.{Step}
 use Rattle.sja_driver.specs.declared.logged_driver.LoggedDriver.{LoggedDriver}
-use Rattle.sja_driver.specs.Deeds.{Deed, deeds_at, with_deeds}
+use Rattle.sja_driver.specs.TypedActs.{TypedAct, acts_at, with_acts}
 use Rattle.sja_driver.specs.LoggedDrivers.{node_of, StaysLawful}
-use Rattle.sja_log.specs.Nodes.{IsNode}
+use Rattle.sja_promises.specs.Nodes.{IsNode}
 use Rattle.sja_serial.specs.Serial.{Setup, SerialValue, StandsAt}
-use Rattle.sja_serial.specs.Inside.Going.{run_now}
+use Rattle.sja_serial.specs.Inside.SerialProgress.{run_now}
 use Rattle.sja_driver.specs.Shown.{ShowsRecord}
 use Rattle.sja_driver.proofs.OneNode.Slices.{each_set}
-use Rattle.sja_log.proofs.OneNode.Gathered.{Gathers}
-use Rattle.sja_log.proofs.OneNode.Trying.{StepsHere}
-use Rattle.sja_log.proofs.OneNode.Turned.{none_entered, same_journal, idle}
+use Rattle.sja_promises.proofs.OneNode.Gathered.{Gathers}
+use Rattle.sja_promises.proofs.OneNode.Trying.{StepsHere}
+use Rattle.sja_promises.proofs.OneNode.Turned.{none_entered, same_journal, idle}
 use Rattle.sja_serial.proofs.OneNode.Alike.{alike_after, still_ends, still_starts}
 
 -- nothing is untold after a taking: so nothing was before it, and no item was taken
@@ -74,31 +74,31 @@ pub record Tries (r : SerialValue) (node : ℕ) (was now : LoggedDriver) (p q : 
   pub sames : EachRelated AreAlike (slice_set r.links node given) after
 
 -- the node whose driver, port and links these are
-pub node_there : {setup : Setup} {r : SerialValue} {deeds : List (List Deed)} {node : ℕ} {was : LoggedDriver}
-    {p : Registers} {old : Deques} → StandsAt setup r deeds → node < setup.nodes →
+pub node_there : {setup : Setup} {r : SerialValue} {acts : List (List TypedAct)} {node : ℕ} {was : LoggedDriver}
+    {p : Registers} {old : Deques} → StandsAt setup r acts → node < setup.nodes →
     was ≡ slice_index_or r.drivers node was → p ≡ slice_index_or r.ports node p →
     old ≡ slice_index_or r.links node old →
-    IsNode setup.version (slice_index_or setup.steps node 0) (journal_at r.bus.journals node) (deeds_at deeds node)
+    IsNode setup.version (slice_index_or setup.steps node 0) (journal_at r.bus.journals node) (acts_at acts node)
     was p old
-node_there {setup} {r} {deeds} {node} {was} {p} {old} h there was_is p_is old_is =
+node_there {setup} {r} {acts} {node} {was} {p} {old} h there was_is p_is old_is =
     let N : LoggedDriver → Registers → Deques → Type 0 = λ d x l. IsNode setup.version
-    (slice_index_or setup.steps node 0) (journal_at r.bus.journals node) (deeds_at deeds node) d x l in
+    (slice_index_or setup.steps node 0) (journal_at r.bus.journals node) (acts_at acts node) d x l in
     subst (λ d. N d p old) (sym was_is)
     (subst (λ x. N (slice_index_or r.drivers node was) x old) (sym p_is)
     (subst (λ l. N (slice_index_or r.drivers node was) (slice_index_or r.ports node p) l) (sym old_is)
     (h.nodes node was p old there)))
 
 -- the links are those of the driver's node
-pub same_node : {setup : Setup} {r : SerialValue} {deeds : List (List Deed)} {node : ℕ} {was : LoggedDriver}
-    {old : Deques} → StandsAt setup r deeds → node < setup.nodes → was ≡ slice_index_or r.drivers node was →
+pub same_node : {setup : Setup} {r : SerialValue} {acts : List (List TypedAct)} {node : ℕ} {was : LoggedDriver}
+    {old : Deques} → StandsAt setup r acts → node < setup.nodes → was ≡ slice_index_or r.drivers node was →
     old ≡ slice_index_or r.links node old → old.node ≡ node_of was
 same_node {node = node} {was} {old} h there was_is old_is =
     ap (λ (s : Deques). s.node) old_is ∙ h.ends.own node old there ∙ sym (h.own node was there)
     ∙ sym (ap node_of was_is)
 
 -- each driver is its node's still
-pub owners : {setup : Setup} {r : SerialValue} {deeds : List (List Deed)} {node : ℕ} {was : LoggedDriver}
-    (now : LoggedDriver) → StandsAt setup r deeds → node < setup.nodes → was ≡ slice_index_or r.drivers node was →
+pub owners : {setup : Setup} {r : SerialValue} {acts : List (List TypedAct)} {node : ℕ} {was : LoggedDriver}
+    (now : LoggedDriver) → StandsAt setup r acts → node < setup.nodes → was ≡ slice_index_or r.drivers node was →
     node_of now ≡ node_of was → (m : ℕ) (d : LoggedDriver) → m < setup.nodes →
     node_of (slice_index_or (slice_set r.drivers node now) m d) ≡ m
 owners {r = r} {node = node} {was} now h there was_is same m d less = elim (cases_eq node m) [
@@ -108,9 +108,9 @@ owners {r = r} {node = node} {was} now h there was_is same m d less = elim (case
   | inr differ ↦ ap node_of (get_or-set_other r.drivers node m now d (λ e. differ (sym e))) ∙ h.own m d less
 ]
 
-module _ {setup : Setup} {r : SerialValue} {deeds : List (List Deed)} {node : ℕ} {was now : LoggedDriver}
+module _ {setup : Setup} {r : SerialValue} {acts : List (List TypedAct)} {node : ℕ} {was now : LoggedDriver}
     {p q : Registers} {one : Step} {answer : Option StepAnswer} {old given : Deques} {bus : BusValue}
-    {after : List Deques} (h : StandsAt setup r deeds) (there : node < setup.nodes)
+    {after : List Deques} (h : StandsAt setup r acts) (there : node < setup.nodes)
     (t : Tries r node was now p q one answer old given bus after) where
   abbrev n : SerialValue
   n = run_tried r node now q bus after
@@ -155,7 +155,7 @@ module _ {setup : Setup} {r : SerialValue} {deeds : List (List Deed)} {node : �
   -- another node, whose links and driver are as they were, has the same journal, and keeps all else
   pub other_node : (m : ℕ) (d : LoggedDriver) (x : Registers) (l : Deques) → (m ≡ node → ⊥) → m < setup.nodes →
       (journal_at bus.journals m ≡ journal_at r.bus.journals m)
-      × IsNode setup.version (slice_index_or setup.steps m 0) (journal_at bus.journals m) (deeds_at deeds m)
+      × IsNode setup.version (slice_index_or setup.steps m 0) (journal_at bus.journals m) (acts_at acts m)
       (slice_index_or r.drivers m d) (slice_index_or r.ports m x) (slice_index_or after m l)
   other_node m d x l differ less =
       let w = h.nodes m d x l less in let v = slice_index_or r.drivers m d in let g = gathers_else m l differ less in (
@@ -163,12 +163,12 @@ module _ {setup : Setup} {r : SerialValue} {deeds : List (List Deed)} {node : �
         idle v w w.traced.lawful g w.traced.traces w.linked.holds (λ any k e. e) refl refl refl,
       )
 
-  -- the run stands at the deeds that are had more
-  pub stands_after : (more : List Deed) → IsNode setup.version (slice_index_or setup.steps node 0)
-      (journal_at bus.journals node) (deeds_at deeds node ++ more) now q (slice_index_or after node old) →
+  -- the run stands at the acts that are had more
+  pub stands_after : (more : List TypedAct) → IsNode setup.version (slice_index_or setup.steps node 0)
+      (journal_at bus.journals node) (acts_at acts node ++ more) now q (slice_index_or after node old) →
       (journal_at bus.journals node ≡ journal_at r.bus.journals node →
       ShowsRecord (journal_at r.bus.journals node) p → ShowsRecord (journal_at bus.journals node) q) →
-      StandsAt setup n (with_deeds deeds node more)
+      StandsAt setup n (with_acts acts node more)
   stands_after more node_after shows = record {
     right = t.right;
     script = t.script ∙ h.script;
@@ -181,7 +181,7 @@ module _ {setup : Setup} {r : SerialValue} {deeds : List (List Deed)} {node : �
     };
     may = h.may;
     steps = t.room ∙ h.steps;
-    deeds_count = length-set deeds node (deeds_at deeds node ++ more) ∙ h.deeds_count;
+    acts_count = length-set acts node (acts_at acts node ++ more) ∙ h.acts_count;
     links = t.starts ∙ h.links;
     ends = still_ends h.ends sames;
     starts = still_starts (most_activations setup.version) r.links after h.starts sames;
@@ -223,15 +223,15 @@ module _ {setup : Setup} {r : SerialValue} {deeds : List (List Deed)} {node : �
 
       each : (m : ℕ) (d : LoggedDriver) (x : Registers) (l : Deques) → m < setup.nodes →
           IsNode setup.version (slice_index_or setup.steps m 0) (journal_at bus.journals m)
-          (deeds_at (with_deeds deeds node more) m) (slice_index_or (slice_set r.drivers node now) m d)
+          (acts_at (with_acts acts node more) m) (slice_index_or (slice_set r.drivers node now) m d)
           (slice_index_or (slice_set r.ports node q) m x) (slice_index_or after m l)
       each m d x l less =
-          let P : ℕ → List Deed → LoggedDriver → Registers → Type 0 = λ k ds w g. k < setup.nodes →
+          let P : ℕ → List TypedAct → LoggedDriver → Registers → Type 0 = λ k ds w g. k < setup.nodes →
           IsNode setup.version (slice_index_or setup.steps k 0) (journal_at bus.journals k) ds w g
           (slice_index_or after k l) in
-          let c = h.deeds_count in
-          each_set P deeds r.drivers r.ports node (deeds_at deeds node ++ more) [] now d q x
+          let c = h.acts_count in
+          each_set P acts r.drivers r.ports node (acts_at acts node ++ more) [] now d q x
           (omega (arith, c, there)) few few_ports (λ less. subst (λ s.
           IsNode setup.version (slice_index_or setup.steps node 0) (journal_at bus.journals node)
-          (deeds_at deeds node ++ more) now q s) (after_at l) node_after)
+          (acts_at acts node ++ more) now q s) (after_at l) node_after)
           (λ k differ near. (other_node k d x l differ near).1) m less

@@ -1,49 +1,49 @@
 -- A run in which the step of one node's driver was tried, and what it gave was taken: it was done, or it has to wait.
-use Rattle.sja_script.specs.declared.step_answer.StepAnswer.{StepAnswer}
+use Rattle.sja_steps.specs.declared.step_answer.StepAnswer.{StepAnswer}
 use Rattle.std.proofs.Common.{◌≡◌, ℕ, zero, suc, ◌<◌, List, [], ◌∷◌, length, sym, ap}
 use Rattle.std.proofs.Common.{refl, ◌∙◌, subst, append-nil, arith, inl, inr}
 use Rattle.std.specs.Prelude.{slice_index_or, slice_set, Option, Some, None, IfSome}
 use Rattle.std.proofs.lemmas.Bool.{cases_eq}
 use Rattle.std.proofs.lemmas.List.{get_or_default, get_or-set_other, get_or-set_same, set-get_or}
-use Rattle.sja_link.specs.declared.entry.Entry.{Entry}
+use Rattle.sja_journal.specs.declared.entry.Entry.{Entry}
 use Rattle.sja_link.specs.Deques.{Deques}
-use Rattle.sja_link.specs.Sizes.{most_activations}
-use Rattle.sja_link.specs.Places.{place_of}
-use Rattle.sja_link.proofs.JournalEntries.Entering.{bits_counted}
-use Rattle.sja_wire.specs.Buses.{BusValue}
-use Rattle.sja_wire.specs.Lawful.{IsBusRun}
-use Rattle.sja_wire.specs.Wire.{journal_at}
-use Rattle.sja_script.specs.declared.step.Step.{Step}
+use Rattle.sja_journal.specs.Sizes.{most_activations}
+use Rattle.sja_journal.specs.Places.{place_of}
+use Rattle.sja_journal.proofs.JournalEntries.Entering.{bits_counted}
+use Rattle.sja_bus_rules.specs.Buses.{BusValue}
+use Rattle.sja_bus_rules.specs.Lawful.{IsBusRun}
+use Rattle.sja_bus_rules.specs.Wire.{journal_at}
+use Rattle.sja_steps.specs.declared.step.Step.{Step}
 use Rattle.sja_regs.specs.declared.registers.Registers.{Registers}
 use Rattle.sja_driver.specs.declared.logged_driver.LoggedDriver.{LoggedDriver}
-use Rattle.sja_driver.specs.Deeds.{Deed, deeds_at}
+use Rattle.sja_driver.specs.TypedActs.{TypedAct, acts_at}
 use Rattle.sja_driver.specs.LoggedDrivers.{kept_of, log_of}
-use Rattle.sja_log.specs.Registering.{IsPortDeed}
-use Rattle.sja_log.specs.Nodes.{IsNode}
+use Rattle.sja_promises.specs.Registering.{IsPortAct}
+use Rattle.sja_promises.specs.Nodes.{IsNode}
 use Rattle.sja_serial.specs.Serial.{Setup, SerialValue, StandsAt}
-use Rattle.sja_link.specs.BitEntries.{HasMore}
-use Rattle.sja_serial.specs.Stepping.{DoesDeed, DoesNothing}
+use Rattle.sja_journal.specs.BitEntries.{HasMore}
+use Rattle.sja_serial.specs.Stepping.{DoesAct, DoesNothing}
 use Rattle.sja_driver.specs.Shown.{ShowsRecord}
-use Rattle.sja_log.specs.Waiting.{HasToWait}
-use Rattle.sja_log.proofs.OneNode.Turned.{stepped, waited}
+use Rattle.sja_promises.specs.Waiting.{HasToWait}
+use Rattle.sja_promises.proofs.OneNode.Turned.{stepped, waited}
 use Rattle.sja_serial.proofs.AllNodes.Several.{each_as}
 use Rattle.sja_serial.proofs.OneNode.Standing.{Tries, run_tried, node_there, gathers, other_node, stands_after}
 
 -- the step was done with this answer, or it has to wait
-abbrev pub IsTried : Setup → SerialValue → SerialValue → ℕ → Step → List (List Deed) → Option StepAnswer → Type 0
-IsTried setup was now node step deeds answer =
-    IfSome answer (λ given. DoesDeed setup was now node step given deeds)
-    × (answer ≡ None → DoesNothing setup was now node step deeds)
+abbrev pub IsTried : Setup → SerialValue → SerialValue → ℕ → Step → List (List TypedAct) → Option StepAnswer → Type 0
+IsTried setup was now node step acts answer =
+    IfSome answer (λ given. DoesAct setup was now node step given acts)
+    × (answer ≡ None → DoesNothing setup was now node step acts)
 
-module _ {setup : Setup} {r : SerialValue} {deeds : List (List Deed)} {node : ℕ}
-    (h : StandsAt setup r deeds) (there : node < setup.nodes)
+module _ {setup : Setup} {r : SerialValue} {acts : List (List TypedAct)} {node : ℕ}
+    (h : StandsAt setup r acts) (there : node < setup.nodes)
     (laws : IsBusRun r.bus.script r.bus.run r.bus.journals)
-    (few : length (deeds_at deeds node) < slice_index_or setup.steps node 0) where
+    (few : length (acts_at acts node) < slice_index_or setup.steps node 0) where
   abbrev j : List Entry
   j = journal_at r.bus.journals node
 
-  abbrev ds : List Deed
-  ds = deeds_at deeds node
+  abbrev ds : List TypedAct
+  ds = acts_at acts node
 
   inside : node < length r.bus.journals
   inside = let c = h.count.journals in omega (arith, c, there)
@@ -84,11 +84,11 @@ module _ {setup : Setup} {r : SerialValue} {deeds : List (List Deed)} {node : �
   -- the step was done
   next_done : {was now : LoggedDriver} {p q : Registers} {old given : Deques} {bus : BusValue} {after : List Deques}
       {one : Step} {answer : StepAnswer} → Tries r node was now p q one (Some answer) old given bus after →
-      DoesDeed setup r (run_tried r node now q bus after) node one answer deeds
+      DoesAct setup r (run_tried r node now q bus after) node one answer acts
   next_done {was} {now} {p} {q} {old} {bus = bus} {after} {one} {answer} t =
       let s = stepped now (w t) t.stays.lawful (gathers h there t) (laws.lawful node inside) answer few t.steps
-      t.stays.room in let d = s.deed in record {
-        deed = d;
+      t.stays.room in let d = s.act in record {
+        act = d;
         does = record {
           stands = stands_after h there t (d ∷ []) s.node s.shows;
           at_once = λ i e less. only d i e (s.port.now ∙ place) less;
@@ -97,9 +97,9 @@ module _ {setup : Setup} {r : SerialValue} {deeds : List (List Deed)} {node : �
         };
         step_is = s.step_is;
         answer_is = s.answer_is;
-        port = λ x. subst (λ (a : Registers). IsPortDeed a (slice_index_or (slice_set r.ports node q) node x) j
+        port = λ x. subst (λ (a : Registers). IsPortAct a (slice_index_or (slice_set r.ports node q) node x) j
             (journal_at bus.journals node) ds d) (port t x)
-            (subst (λ (b : Registers). IsPortDeed p b j (journal_at bus.journals node) ds d) (port_now t x) s.port);
+            (subst (λ (b : Registers). IsPortAct p b j (journal_at bus.journals node) ds d) (port_now t x) s.port);
         fits = s.fits;
         sees = s.sees;
         others = λ m less differ. (other_node h there t m was p old differ less).0;
@@ -108,7 +108,8 @@ module _ {setup : Setup} {r : SerialValue} {deeds : List (List Deed)} {node : �
         kept = kept_stays t;
       }
     where
-      only : (x : Deed) (i : ℕ) (d : Deed) → x.bits ≡ r.bits → i < 1 → (slice_index_or (x ∷ []) i d).bits ≡ r.bits
+      only : (x : TypedAct) (i : ℕ) (d : TypedAct) → x.bits ≡ r.bits → i < 1 →
+          (slice_index_or (x ∷ []) i d).bits ≡ r.bits
       only x zero d e less = e
       only x (suc i) d e less = absurd (omega (arith, less))
 
@@ -116,14 +117,14 @@ module _ {setup : Setup} {r : SerialValue} {deeds : List (List Deed)} {node : �
   next_waits : {was now : LoggedDriver} {p q : Registers} {old given : Deques} {bus : BusValue} {after : List Deques}
       {one : Step} →
       Tries r node was now p q one None old given bus after →
-      DoesNothing setup r (run_tried r node now q bus after) node one deeds
+      DoesNothing setup r (run_tried r node now q bus after) node one acts
   next_waits {was} {now} {p} {q} {old} {bus = bus} {after} {one} t =
       let s = waited now (w t) t.stays.lawful (gathers h there t) (laws.lawful node inside) t.steps
       (t.stays.waits refl) (starts t) in let k = journal_at bus.journals node in
       let ports_stay : slice_set r.ports node q ≡ r.ports =
       ap (slice_set r.ports node) (s.port ∙ t.p_is) ∙ set-get_or r.ports node p in record {
         does = record {
-          stands = stands_after h there t [] (subst (λ (l : List Deed). IsNode setup.version
+          stands = stands_after h there t [] (subst (λ (l : List TypedAct). IsNode setup.version
               (slice_index_or setup.steps node 0) k l now q (slice_index_or after node old)) (sym (append-nil ds))
               s.node) (λ same shown. subst (ShowsRecord k) (sym s.port)
               (subst (λ (l : List Entry). ShowsRecord l p) (sym same) shown));
@@ -147,6 +148,6 @@ module _ {setup : Setup} {r : SerialValue} {deeds : List (List Deed)} {node : �
   pub next_tried : {was now : LoggedDriver} {p q : Registers} {old given : Deques} {bus : BusValue}
       {after : List Deques} {one : Step} (answer : Option StepAnswer) →
       Tries r node was now p q one answer old given bus after →
-      IsTried setup r (run_tried r node now q bus after) node one deeds answer
+      IsTried setup r (run_tried r node now q bus after) node one acts answer
   next_tried (Some answer) t = (next_done t, λ e. absurd cc)
   next_tried None t = (tt, λ e. next_waits t)

@@ -5,7 +5,7 @@ use Rattle.std.proofs.lemmas.Bool.{cases_eq}
 use Rattle.std.proofs.lemmas.List.{get_or_append_left, get_or_push, length-append}
 use Rattle.sja_link.specs.declared.older_down.OlderDown.{OlderDown}
 use Rattle.sja_link.specs.Deques.{Deques, left_on, down_on}
-use Rattle.sja_log.specs.LeftDown.{left_of, IsLeft}
+use Rattle.sja_promises.specs.LeftDown.{left_of, IsLeft}
 
 -- of so many nodes
 pub record IsLeftOf (links : List Deques) (count : ℕ) (lists : List (List OlderDown)) : Type 0 where

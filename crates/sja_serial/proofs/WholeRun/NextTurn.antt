@@ -7,7 +7,7 @@ use Rattle.sja_plan.specs.Plan.{PlanValue, NamesNode}
 use Rattle.sja_plan.specs.declared.turn.Turn.{Turn}
 use Rattle.sja_plan.specs.declared.turn.Turn.TheVariants.{Bus}
 use Rattle.sja_log.specs.declared.end.End.TheVariants.{Turns as TurnsDone, Bits as BitsSpent}
-use Rattle.sja_serial.specs.Inside.Going.{TakesTurns}
+use Rattle.sja_serial.specs.Inside.SerialProgress.{TakesTurns}
 use Rattle.sja_serial.specs.Inside.Turning.{TakesOne}
 use Rattle.sja_serial.specs.Serial.{SerialValue}
 use Rattle.sja_serial.proofs.WholeRun.Coming.{HasCome, begin, come_at, come_one, whole_at, end_one, end_all}
@@ -23,7 +23,7 @@ turn_is same i d = ap (λ (ts : List Turn). slice_index_or ts i d) (sym same)
 -- it was taken: as a whole, or the bits are spent
 module _ {plan : PlanValue} {turns : List Turn} (same : turns ≡ plan.turns) (i : ℕ) (less : i < length turns)
     {was : SerialValue} (now : SerialValue) (c : HasCome plan (take i plan.turns) [] was) (all : Bool)
-    (taken : TakesOne plan c.accesses was now (slice_index_or turns i (Bus 0)) all) where
+    (taken : TakesOne plan c.step_runs was now (slice_index_or turns i (Bus 0)) all) where
   abbrev turn : Turn
   turn = slice_index_or turns i (Bus 0)
 

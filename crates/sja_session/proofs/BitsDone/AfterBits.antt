@@ -8,12 +8,12 @@ use Rattle.sja_plan.specs.declared.turn.Turn.TheVariants.{Bus}
 use Rattle.sja_plan.specs.Limits.{most_bits}
 use Rattle.sja_plan.specs.Plan.{PlanValue}
 use Rattle.sja_plan.proofs.PlanLimits.ByVersion.{bits_most}
-use Rattle.sja_script.specs.declared.step.Step.{Step}
-use Rattle.sja_script.specs.declared.strike.Strike.{Strike}
-use Rattle.sja_driver.specs.Accesses.{Access}
+use Rattle.sja_steps.specs.declared.step.Step.{Step}
+use Rattle.sja_steps.specs.declared.strike.Strike.{Strike}
+use Rattle.sja_driver.specs.StepRuns.{StepRun}
 use Rattle.sja_serial.specs.Bits.{TakesBits}
 use Rattle.sja_serial.specs.Ending.{progress}
-use Rattle.sja_serial.specs.Serial.{Setup, SerialValue, StandsBy, all_deeds}
+use Rattle.sja_serial.specs.Serial.{Setup, SerialValue, StandsBy, all_acts}
 use Rattle.sja_serial.proofs.WholeRun.GoingOn.{bits_run, stands_by_bits}
 use Rattle.sja_session.specs.declared.session_room.SessionRoom.{SessionRoom}
 use Rattle.sja_session.specs.Running.{MayRun}
@@ -26,47 +26,47 @@ use Rattle.sja_session.proofs.WrittenPlan.Turned.{took_turn, few_turns, named_tu
 use Rattle.sja_session.proofs.WrittenPlan.Within.{bits_few, last_few}
 
 module _ {room : SessionRoom} {plan : PlanValue} {was now : SerialValue} {steps : List (List Step)} {turns : List Turn}
-    {accesses : List (List Access)} {Before : SerialValue → Type 0} {n run : ℕ}
-    (h : IsAt (session_of room was plan steps turns) accesses)
-    (t : TakesBits (setup_by (session_of room was plan steps turns)) (all_deeds accesses) Before was n now)
+    {step_runs : List (List StepRun)} {Before : SerialValue → Type 0} {n run : ℕ}
+    (h : IsAt (session_of room was plan steps turns) step_runs)
+    (t : TakesBits (setup_by (session_of room was plan steps turns)) (all_acts step_runs) Before was n now)
     (is : run ≡ now.bits - was.bits) where
   abbrev setup : Setup
   setup = setup_by (session_of room was plan steps turns)
 
   pub run_is : n ≡ run
-  run_is = let b = bits_run setup (all_deeds accesses) Before was now n t in omega (arith, b, is)
+  run_is = let b = bits_run setup (all_acts step_runs) Before was now n t in omega (arith, b, is)
 
-  pub bits_now : TakesBits setup (all_deeds accesses) Before was run now
-  bits_now = subst (λ (m : ℕ). TakesBits setup (all_deeds accesses) Before was m now) run_is t
+  pub bits_now : TakesBits setup (all_acts step_runs) Before was run now
+  bits_now = subst (λ (m : ℕ). TakesBits setup (all_acts step_runs) Before was m now) run_is t
 
   pub many : now.bits ≡ was.bits + run
-  many = let b = bits_run setup (all_deeds accesses) Before was now n t in let e = run_is in omega (arith, b, e)
+  many = let b = bits_run setup (all_acts step_runs) Before was now n t in let e = run_is in omega (arith, b, e)
 
-  pub stands_now : StandsBy setup now accesses
-  stands_now = stands_by_bits setup accesses Before was now run bits_now h.stands
+  pub stands_now : StandsBy setup now step_runs
+  stands_now = stands_by_bits setup step_runs Before was now run bits_now h.stands
 
-  at_some : IsAt (session_of room now plan steps (with_turn turns (Bus run))) accesses
+  at_some : IsAt (session_of room now plan steps (with_turn turns (Bus run))) step_runs
   at_some = record {
     stands = stands_now;
     steps = h.steps;
     count = h.count;
-    took = λ end. took_turn accesses (start_of (length plan.nodes)) (Bus run) turns (progress now accesses)
+    took = λ end. took_turn step_runs (start_of (length plan.nodes)) (Bus run) turns (progress now step_runs)
         (λ k m e. absurd cc)
-        (took_bits accesses (start_of (length plan.nodes)) (reverse turns) was now run many (h.took end));
+        (took_bits step_runs (start_of (length plan.nodes)) (reverse turns) was now run many (h.took end));
   }
 
-  at_none : run ≡ 0 → IsAt (session_of room now plan steps turns) accesses
+  at_none : run ≡ 0 → IsAt (session_of room now plan steps turns) step_runs
   at_none none = record {
     stands = stands_now;
     steps = h.steps;
     count = h.count;
-    took = λ end. let m = many in took_same accesses (start_of (length plan.nodes)) (reverse turns) was now
+    took = λ end. let m = many in took_same step_runs (start_of (length plan.nodes)) (reverse turns) was now
         (omega (arith, m, none)) (h.took end);
   }
 
   -- without an end whatever turns it has
   pub at_endless : most_bits plan.version < plan.bits → (items : List Turn) →
-      IsAt (session_of room now plan steps items) accesses
+      IsAt (session_of room now plan steps items) step_runs
   at_endless endless items = record {
     stands = stands_now;
     steps = h.steps;
@@ -75,10 +75,10 @@ module _ {room : SessionRoom} {plan : PlanValue} {was now : SerialValue} {steps 
   }
 
   -- with a turn of so many bits more, where there are some
-  pub at_now : (m : ℕ) → m ≡ run → IsAt (session_of room now plan steps (with_bits turns m)) accesses
+  pub at_now : (m : ℕ) → m ≡ run → IsAt (session_of room now plan steps (with_bits turns m)) step_runs
   at_now zero e = at_none (sym e)
   at_now (suc m) e =
-      subst (λ (n : ℕ). IsAt (session_of room now plan steps (with_turn turns (Bus n))) accesses) (sym e) at_some
+      subst (λ (n : ℕ). IsAt (session_of room now plan steps (with_turn turns (Bus n))) step_runs) (sym e) at_some
 
   pub wrote_now : (m : ℕ) → written (session_of room now plan steps (with_bits turns m))
       ≡ with_bits_run (written (session_of room was plan steps turns)) m
@@ -87,13 +87,13 @@ module _ {room : SessionRoom} {plan : PlanValue} {was now : SerialValue} {steps 
 
   -- with the turns that were taken down, if it has an end
   module _ (items : List Turn) (noted : plan.bits ≤ most_bits plan.version → items ≡ with_bits turns run) where
-    pub at_items : IsAt (session_of room now plan steps items) accesses
+    pub at_items : IsAt (session_of room now plan steps items) step_runs
     at_items = record {
       stands = stands_now;
       steps = h.steps;
       count = h.count;
-      took = λ end. subst (λ (l : List Turn). Took accesses (start_of (length plan.nodes)) (reverse l)
-          (progress now accesses)) (sym (noted end)) ((at_now run refl).took end);
+      took = λ end. subst (λ (l : List Turn). Took step_runs (start_of (length plan.nodes)) (reverse l)
+          (progress now step_runs)) (sym (noted end)) ((at_now run refl).took end);
     }
 
     pub wrote_items : plan.bits ≤ most_bits plan.version → written (session_of room now plan steps items)
@@ -102,13 +102,13 @@ module _ {room : SessionRoom} {plan : PlanValue} {was now : SerialValue} {steps 
 
 -- ---- what holds of every session
 
--- it holds of one whose run, and whose strikes, are others, and which stands at the same accesses
+-- it holds of one whose run, and whose strikes, are others, and which stands at the same step runs
 pub session_at : {s : SessionValue} {sizes : List ℕ} {capacity : ℕ} (run : SerialValue) (strikes : List Strike)
     (inv : IsSession s sizes capacity) →
-    IsAt (record s { run = run; plan = record s.plan { strikes = strikes } }) inv.accesses →
+    IsAt (record s { run = run; plan = record s.plan { strikes = strikes } }) inv.step_runs →
     IsSession (record s { run = run; plan = record s.plan { strikes = strikes } }) sizes capacity
 session_at run strikes inv at = record {
-  accesses = inv.accesses;
+  step_runs = inv.step_runs;
   at = at;
   rules = inv.rules;
   places = inv.places;
@@ -124,19 +124,19 @@ session_at run strikes inv at = record {
 module _ {room : SessionRoom} {plan : PlanValue} {was now : SerialValue} {steps : List (List Step)} {turns : List Turn}
     {sizes : List ℕ} {capacity : ℕ} {Before : SerialValue → Type 0} {n run : ℕ}
     (inv : IsSession (session_of room was plan steps turns) sizes capacity)
-    (t : TakesBits (setup_by (session_of room was plan steps turns)) (all_deeds inv.accesses) Before was n now)
+    (t : TakesBits (setup_by (session_of room was plan steps turns)) (all_acts inv.step_runs) Before was n now)
     (is : run ≡ now.bits - was.bits) where
   -- no more bits were run than the plan has
   bits_within : was.bits + run ≤ plan.bits
   bits_within =
       let m = many inv.at t is in
-      let b = bits_few (session_of room now plan steps (with_turn turns (Bus run))) inv.accesses (at_some inv.at t is)
+      let b = bits_few (session_of room now plan steps (with_turn turns (Bus run))) inv.step_runs (at_some inv.at t is)
       in omega (arith, m, b)
 
   -- so the last turn holds them, where it has an end
   pub turn_fits : plan.bits ≤ most_bits plan.version → FitsLast turns (Bus run)
   turn_fits end =
-      let few = last_few (session_of room was plan steps turns) inv.accesses inv.at inv.done end (inv.steps end) in
+      let few = last_few (session_of room was plan steps turns) inv.step_runs inv.at inv.done end (inv.steps end) in
       let b = bits_within in let limit = bits_most plan.version in omega (arith, few, b, limit, end)
 
   -- where some were run they were due, and so a turn is left for them
@@ -155,7 +155,7 @@ module _ {room : SessionRoom} {plan : PlanValue} {was now : SerialValue} {steps 
       IsSession (session_of room now plan steps items) sizes places
   with_some {places} {count} end e same may asked some =
       subst (λ (l : List Turn). IsSession (session_of room now plan steps l) sizes places) (sym e) (record {
-        accesses = inv.accesses;
+        step_runs = inv.step_runs;
         at = at_some inv.at t is;
         rules = inv.rules;
         places = inv.places;

@@ -6,20 +6,20 @@ use Rattle.sja_plan.specs.declared.turn.Turn.{Turn}
 use Rattle.sja_plan.specs.Limits.{most_bits}
 use Rattle.sja_plan.specs.Plan.{PlanValue}
 use Rattle.sja_plan.proofs.PlanLimits.ByVersion.{bits_most}
-use Rattle.sja_script.specs.declared.step.Step.{Step}
-use Rattle.sja_driver.specs.Accesses.{Access}
+use Rattle.sja_steps.specs.declared.step.Step.{Step}
+use Rattle.sja_driver.specs.StepRuns.{StepRun}
 use Rattle.sja_serial.specs.Bits.{TakesRest}
-use Rattle.sja_serial.specs.Serial.{SerialValue, all_deeds}
-use Rattle.sja_session.specs.Resting.{Rests}
+use Rattle.sja_serial.specs.Serial.{SerialValue, all_acts}
+use Rattle.sja_session.specs.SessionRest.{Rests}
 use Rattle.sja_session.specs.declared.session_room.SessionRoom.{SessionRoom}
 use Rattle.sja_session.specs.Sessions.{session_of, setup_by, IsAt}
 use Rattle.sja_session.specs.Inside.Written.{with_bits}
 use Rattle.sja_session.proofs.BitsDone.AfterBits as after
 
 module _ {room : SessionRoom} {plan : PlanValue} {was now : SerialValue} {steps : List (List Step)} {turns : List Turn}
-    {accesses : List (List Access)}
-    {run : ℕ} {rests : Bool} (h : IsAt (session_of room was plan steps turns) accesses)
-    (t : TakesRest (setup_by (session_of room was plan steps turns)) (all_deeds accesses) was now 2000000
+    {step_runs : List (List StepRun)}
+    {run : ℕ} {rests : Bool} (h : IsAt (session_of room was plan steps turns) step_runs)
+    (t : TakesRest (setup_by (session_of room was plan steps turns)) (all_acts step_runs) was now 2000000
     rests)
     (is : run ≡ now.bits - was.bits) (items : List Turn)
     (noted : plan.bits ≤ most_bits plan.version → items ≡ with_bits turns run) where
@@ -36,7 +36,7 @@ module _ {room : SessionRoom} {plan : PlanValue} {was now : SerialValue} {steps 
   ]
 
   pub rested : Rests (session_of room was plan steps turns) (session_of room now plan steps items) run
-      rests accesses
+      rests step_runs
   rested = record {
     bits = after.bits_now h t.bits is;
     whole = t.whole;

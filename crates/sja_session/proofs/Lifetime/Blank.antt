@@ -6,13 +6,13 @@ use Rattle.std.proofs.lemmas.List.{length-replicate}
 use Rattle.sja_plan.specs.Limits.{most_bits}
 use Rattle.sja_plan.specs.declared.turn.Turn.{Turn}
 use Rattle.sja_plan.specs.Plan.{PlanValue}
-use Rattle.sja_script.specs.declared.step.Step.{Step}
-use Rattle.sja_script.specs.declared.strike.Strike.{Strike}
+use Rattle.sja_steps.specs.declared.step.Step.{Step}
+use Rattle.sja_steps.specs.declared.strike.Strike.{Strike}
 use Rattle.sja_serial.specs.Ending.{progress}
-use Rattle.sja_driver.specs.Accesses.{most_deeds}
-use Rattle.sja_link.specs.Sizes.{most_activations}
+use Rattle.sja_driver.specs.StepRuns.{most_acts}
+use Rattle.sja_journal.specs.Sizes.{most_activations}
 use Rattle.sja_serial.specs.Serial.{Setup, SerialValue, StandsBy, setup_with}
-use Rattle.sja_wire.specs.Buses.{BusValue, new_bus}
+use Rattle.sja_bus_rules.specs.Buses.{BusValue, new_bus}
 use Rattle.sja_session.specs.declared.session_room.SessionRoom.{SessionRoom}
 use Rattle.sja_session.specs.Beginning.{IsRoom}
 use Rattle.sja_session.specs.Sessions.{session_of, Took, start_of, IsAt, IsSession, AreNamed}
@@ -20,15 +20,15 @@ use Rattle.sja_session.specs.Sessions.{run_version, setup_for, steps_in, written
 use Rattle.sja_session.specs.Inside.Written.{IsBare}
 use Rattle.sja_session.proofs.WrittenPlan.Taken.{took_none}
 
--- no accesses are no steps
+-- no step runs are no steps
 no_steps : (n : ℕ) → steps_in (replicate n []) ≡ replicate n []
 no_steps zero = refl
 no_steps (suc n) = ap (λ l. [] ∷ l) (no_steps n)
 
--- as many deeds for each as so many steps may be
-deeds_each : (version n size : ℕ) → map (most_deeds version) (replicate n size) ≡ replicate n (most_deeds version size)
-deeds_each version zero size = refl
-deeds_each version (suc n) size = ap (λ l. most_deeds version size ∷ l) (deeds_each version n size)
+-- as many acts for each as so many steps may be
+acts_each : (version n size : ℕ) → map (most_acts version) (replicate n size) ≡ replicate n (most_acts version size)
+acts_each version zero size = refl
+acts_each version (suc n) size = ap (λ l. most_acts version size ∷ l) (acts_each version n size)
 
 -- a run that was made for what such a session's is
 module _ (room : SessionRoom) (plan : PlanValue) {version bits : ℕ} {script : List Strike} {sizes : List ℕ}
@@ -37,9 +37,9 @@ module _ (room : SessionRoom) (plan : PlanValue) {version bits : ℕ} {script : 
   many : length sizes ≡ length plan.nodes
   many = ap (λ (l : List ℕ). length l) sizes_are ∙ length-replicate (length plan.nodes) room.steps
 
-  deeds_are : map (most_deeds version) sizes ≡ replicate (length plan.nodes) (most_deeds (run_version plan) room.steps)
-  deeds_are = (λ i. map (most_deeds (version_is i)) (sizes_are i))
-      ∙ deeds_each (run_version plan) (length plan.nodes) room.steps
+  acts_are : map (most_acts version) sizes ≡ replicate (length plan.nodes) (most_acts (run_version plan) room.steps)
+  acts_are = (λ i. map (most_acts (version_is i)) (sizes_are i))
+      ∙ acts_each (run_version plan) (length plan.nodes) room.steps
 
   made : setup_with version bits script sizes ≡ setup_for plan room.steps
   made = λ i. let s : Setup = record {
@@ -47,7 +47,7 @@ module _ (room : SessionRoom) (plan : PlanValue) {version bits : ℕ} {script : 
     bits = bits_is i;
     strikes = script_is i;
     nodes = many i;
-    steps = deeds_are i;
+    steps = acts_are i;
   } in s
 
   pub stands_made : {run : SerialValue} → StandsBy (setup_with version bits script sizes) run
@@ -57,17 +57,17 @@ module _ (room : SessionRoom) (plan : PlanValue) {version bits : ℕ} {script : 
       (subst (λ (s : Setup). StandsBy s run (replicate (length sizes) [])) made h)
 
   pub bus_made : (run : SerialValue) →
-      run.bus ≡ new_bus script bits (length sizes) (most_activations version) (map (most_deeds version) sizes) →
+      run.bus ≡ new_bus script bits (length sizes) (most_activations version) (map (most_acts version) sizes) →
       run.bus ≡ new_bus plan.strikes plan.bits (length plan.nodes) (most_activations (run_version plan))
-      (replicate (length plan.nodes) (most_deeds (run_version plan) room.steps))
+      (replicate (length plan.nodes) (most_acts (run_version plan) room.steps))
   bus_made run is = is
-      ∙ (λ i. new_bus (script_is i) (bits_is i) (many i) (most_activations (version_is i)) (deeds_are i))
+      ∙ (λ i. new_bus (script_is i) (bits_is i) (many i) (most_activations (version_is i)) (acts_are i))
 
 module _ (room : SessionRoom) {plan : PlanValue} {run : SerialValue} {steps : List (List Step)} {turns : List Turn}
     (bare : IsBare plan) (none : steps ≡ replicate (length plan.nodes) []) (idle : turns ≡ [])
     (stands : StandsBy (setup_for plan room.steps) run (replicate (length plan.nodes) []))
     (bus : run.bus ≡ new_bus plan.strikes plan.bits (length plan.nodes) (most_activations (run_version plan))
-    (replicate (length plan.nodes) (most_deeds (run_version plan) room.steps)))
+    (replicate (length plan.nodes) (most_acts (run_version plan) room.steps)))
   where
     -- it wrote a plan of no step and no turn
     pub wrote_first : written (session_of room run plan steps turns) ≡ plan
@@ -107,7 +107,7 @@ module _ (room : SessionRoom) {plan : PlanValue} {run : SerialValue} {steps : Li
         ((node : ℕ) → node < length plan.nodes → slice_index_or sizes node 0 ≡ room.steps) →
         room.turns + 1 ≤ capacity → IsSession (session_of room run plan steps turns) sizes capacity
     session_first sizes capacity counted rules fits places big = record {
-      accesses = replicate (length plan.nodes) [];
+      step_runs = replicate (length plan.nodes) [];
       at = at_first;
       rules = rules;
       places = places;

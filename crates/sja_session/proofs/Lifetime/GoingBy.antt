@@ -3,10 +3,10 @@ use Rattle.std.proofs.Common.{◌≡◌, ◌<◌, ◌≤◌, ℕ, List, [], repl
 use Rattle.std.specs.Prelude.{◌^◌, if◌then◌else◌}
 use Rattle.std.proofs.lemmas.Bool.{lt-ltb}
 use Rattle.std.proofs.lemmas.List.{length-replicate, get_or-replicate}
-use Rattle.sja_link.specs.Recents.{Recents}
+use Rattle.sja_journal.specs.BoundedHistories.{HistoryValue}
 use Rattle.sja_plan.specs.Limits.{most_bits}
 use Rattle.sja_plan.specs.Plan.{PlanValue}
-use Rattle.sja_script.specs.declared.strike.Strike.{Strike}
+use Rattle.sja_steps.specs.declared.strike.Strike.{Strike}
 use Rattle.sja_session.specs.declared.session_room.SessionRoom.{SessionRoom}
 use Rattle.sja_session.specs.Sessions.{plan_with}
 use Rattle.sja_session.specs.Inside.Written.{IsBare, GoesBy, MayGoBy, beside_for}
@@ -37,7 +37,7 @@ rules_first p bits room may few far = elim may.bits [
 ]
 
 -- it holds strikes beside its plan where it has more bits than that
-pub goes_first : (p : PlanValue) (bits : ℕ) (room : SessionRoom) (struck : Recents Strike) → MayGoBy p bits room →
+pub goes_first : (p : PlanValue) (bits : ℕ) (room : SessionRoom) (struck : HistoryValue Strike) → MayGoBy p bits room →
     p.bits ≤ most_bits p.version → struck.items ≡ [] → struck.room ≡ beside_for p bits → GoesBy p bits struck
 goes_first p bits room struck may few none size = elim may.bits [
   | inl own ↦ inl (own, none)

@@ -4,9 +4,9 @@ use Rattle.std.specs.Prelude.{if◌then◌else◌}
 use Rattle.std.proofs.lemmas.Bool.{cases_lt, le-ltb, lt-ltb}
 use Rattle.can_frame.specs.declared.buffer_view.BufferView.{BufferView}
 use Rattle.sja_regs.specs.declared.registers.Registers.{Registers}
-use Rattle.sja_driver.specs.Accesses.{Access, Answers, IsAccess, by_bytes, deed_steps, most_deeds}
-use Rattle.sja_driver.specs.Deeds.{Deed}
-use Rattle.sja_driver.specs.declared.kept_bytes.KeptBytes.{KeptBytes}
+use Rattle.sja_driver.specs.StepRuns.{StepRun, Answers, IsStepRun, by_bytes, act_steps, most_acts}
+use Rattle.sja_driver.specs.TypedActs.{TypedAct}
+use Rattle.sja_driver.specs.declared.unmodelled_registers.UnmodelledRegisters.{UnmodelledRegisters}
 use Rattle.sja_plan.specs.Limits.{most_bits}
 use Rattle.sja_plan.specs.Plan.{PlanValue}
 use Rattle.sja_session.specs.Sessions.{run_version}
@@ -31,15 +31,16 @@ module _ (p : PlanValue) (rules : most_bits p.version < p.bits → p.version ≡
     | inr end ↦ ap by_bytes (run_as_plan p end)
   ]
 
-  pub access_as_plan : {at : Registers} {seen : BufferView} {active : Bool} {kept kept_now : KeptBytes} {a : Access} →
-      IsAccess (run_version p) at seen active kept a kept_now → IsAccess p.version at seen active kept a kept_now
-  access_as_plan {at} {seen} {active} {kept} {a = a} is = record {
-    steps = subst (λ (b : Bool). map (λ (d : Deed). d.step) a.deeds ≡ deed_steps b at active a.step) bytes_as_plan
+  pub step_run_as_plan : {at : Registers} {seen : BufferView} {active : Bool} {kept kept_now : UnmodelledRegisters}
+      {a : StepRun} →
+      IsStepRun (run_version p) at seen active kept a kept_now → IsStepRun p.version at seen active kept a kept_now
+  step_run_as_plan {at} {seen} {active} {kept} {a = a} is = record {
+    steps = subst (λ (b : Bool). map (λ (d : TypedAct). d.step) a.acts ≡ act_steps b at active a.step) bytes_as_plan
         is.steps;
-    answer = subst (λ (b : Bool). Answers b at seen kept a.bits a.step a.deeds a.answer) bytes_as_plan is.answer;
+    answer = subst (λ (b : Bool). Answers b at seen kept a.bits a.step a.acts a.answer) bytes_as_plan is.answer;
     left = is.left;
   }
 
-  -- and so is how many deeds steps may be
-  pub deeds_as_plan : (steps : ℕ) → most_deeds (run_version p) steps ≡ most_deeds p.version steps
-  deeds_as_plan steps = ap (λ (b : Bool). if b then 3 * steps else steps) bytes_as_plan
+  -- and so is how many acts steps may be
+  pub acts_as_plan : (steps : ℕ) → most_acts (run_version p) steps ≡ most_acts p.version steps
+  acts_as_plan steps = ap (λ (b : Bool). if b then 3 * steps else steps) bytes_as_plan

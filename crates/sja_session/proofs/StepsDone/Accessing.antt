@@ -8,10 +8,10 @@ use Rattle.sja_plan.specs.Limits.{most_bits}
 use Rattle.sja_plan.specs.declared.turn.Turn.{Turn}
 use Rattle.sja_plan.specs.declared.turn.Turn.TheVariants.{Bus, Rest, Node, All as AllSteps, Irq, Go}
 use Rattle.sja_plan.specs.Plan.{PlanValue}
-use Rattle.sja_script.specs.declared.step.Step.{Step}
-use Rattle.sja_script.specs.declared.step_answer.StepAnswer.{StepAnswer}
-use Rattle.sja_driver.specs.Accesses.{Access, accesses_at}
-use Rattle.sja_serial.specs.Stepping.{with_accesses}
+use Rattle.sja_steps.specs.declared.step.Step.{Step}
+use Rattle.sja_steps.specs.declared.step_answer.StepAnswer.{StepAnswer}
+use Rattle.sja_driver.specs.StepRuns.{StepRun, step_runs_at}
+use Rattle.sja_serial.specs.Stepping.{with_step_runs}
 use Rattle.sja_serial.proofs.AllNodes.Several.{many_steps}
 use Rattle.sja_session.specs.ByAddress.{DoesSteps, MayDo, HasTurnFor}
 use Rattle.sja_session.specs.ByAddress.DoesSteps.{none, more}
@@ -44,11 +44,12 @@ on_itself (u ∷ earlier) k m = by (goes_on u (Node k m)) refl
 
 -- ---- after a step of a node
 
-module _ {was now : SessionValue} {node : ℕ} {step : Step} {answer : StepAnswer} {accesses : List (List Access)}
-    (does : DoesStep was now node step answer accesses) (at : IsAt was accesses) (there : node < length was.plan.nodes)
+module _ {was now : SessionValue} {node : ℕ} {step : Step} {answer : StepAnswer} {step_runs : List (List StepRun)}
+    (does : DoesStep was now node step answer step_runs) (at : IsAt was step_runs)
+    (there : node < length was.plan.nodes)
   where
-    abbrev after : List (List Access)
-    after = with_accesses accesses node (does.access ∷ [])
+    abbrev after : List (List StepRun)
+    after = with_step_runs step_runs node (does.step_run ∷ [])
 
     turn_goes_on : HasTurn now (Node node 1)
     turn_goes_on = elim (cases_lt (most_bits was.plan.version) was.plan.bits) [
@@ -65,18 +66,19 @@ module _ {was now : SessionValue} {node : ℕ} {step : Step} {answer : StepAnswe
 
     nodes_are : length now.plan.nodes ≡ length was.plan.nodes
     nodes_are = sym does.at.count ∙ sym (many_steps does.at.stands)
-        ∙ length-set accesses node (accesses_at accesses node ++ does.access ∷ []) ∙ many_steps at.stands ∙ at.count
+        ∙ length-set step_runs node (step_runs_at step_runs node ++ does.step_run ∷ []) ∙ many_steps at.stands
+        ∙ at.count
 
     one_more : steps_done_of now node ≡ steps_done_of was node + 1
     one_more =
-        let inside : node < length accesses = let c = many_steps at.stands in let n = at.count in
+        let inside : node < length step_runs = let c = many_steps at.stands in let n = at.count in
         omega (arith, c, n, there) in
-        let here : accesses_at after node ≡ accesses_at accesses node ++ does.access ∷ [] =
-        get_or-set_same accesses node (accesses_at accesses node ++ does.access ∷ []) [] inside in
+        let here : step_runs_at after node ≡ step_runs_at step_runs node ++ does.step_run ∷ [] =
+        get_or-set_same step_runs node (step_runs_at step_runs node ++ does.step_run ∷ []) [] inside in
         let later = steps_many now.steps after node does.at.steps in
-        let first = steps_many was.steps accesses node at.steps in
+        let first = steps_many was.steps step_runs node at.steps in
         let long = ap (λ l. length l) here in
-        let both = length-append (accesses_at accesses node) (does.access ∷ []) in
+        let both = length-append (step_runs_at step_runs node) (does.step_run ∷ []) in
         omega (arith, later, first, long, both)
 
     pub may_more : (count : ℕ) → MayDo was node (count + 1) → MayDo now node count
@@ -90,41 +92,42 @@ module _ {was now : SessionValue} {node : ℕ} {step : Step} {answer : StepAnswe
 
 -- ---- several steps
 
-steps_both : {node : ℕ} {was mid now : SessionValue} {accesses half after : List (List Access)}
-    {steps others : List Step} {answers later : List StepAnswer} → DoesSteps node was accesses steps answers mid half →
+steps_both : {node : ℕ} {was mid now : SessionValue} {step_runs half after : List (List StepRun)}
+    {steps others : List Step} {answers later : List StepAnswer} → DoesSteps node was step_runs steps answers mid half →
     DoesSteps node mid half others later now after →
-    DoesSteps node was accesses (steps ++ others) (answers ++ later) now after
+    DoesSteps node was step_runs (steps ++ others) (answers ++ later) now after
 steps_both none second = second
 steps_both (more does first) second = more does (steps_both first second)
 
 -- no step
-pub does_none : (s : SessionValue) (node : ℕ) (accesses : List (List Access)) → IsAt s accesses →
-    Does s s node [] accesses
-does_none s node accesses at = record {
+pub does_none : (s : SessionValue) (node : ℕ) (step_runs : List (List StepRun)) → IsAt s step_runs →
+    Does s s node [] step_runs
+does_none s node step_runs at = record {
   answers = [];
-  after = accesses;
+  after = step_runs;
   does = none;
   at = at;
   goes_on = λ count may. subst (MayDo s node) (let z : count + 0 ≡ count = omega arith in z) may;
 }
 
 -- one step
-pub does_one : (was now : SessionValue) (node : ℕ) (one : Step) (answer : StepAnswer) (accesses : List (List Access)) →
-    DoesStep was now node one answer accesses → IsAt was accesses → node < length was.plan.nodes →
-    Does was now node (one ∷ []) accesses
-does_one was now node one answer accesses does at there = record {
+pub does_one : (was now : SessionValue) (node : ℕ) (one : Step) (answer : StepAnswer) (step_runs : List (List StepRun))
+    →
+    DoesStep was now node one answer step_runs → IsAt was step_runs → node < length was.plan.nodes →
+    Does was now node (one ∷ []) step_runs
+does_one was now node one answer step_runs does at there = record {
   answers = answer ∷ [];
-  after = with_accesses accesses node (does.access ∷ []);
+  after = with_step_runs step_runs node (does.step_run ∷ []);
   does = more does none;
   at = does.at;
   goes_on = λ count may. may_more does at there count may;
 }
 
 -- some steps, and then others
-pub does_both : (was mid now : SessionValue) (node : ℕ) (steps others : List Step) (accesses : List (List Access))
-    (first : Does was mid node steps accesses) → Does mid now node others first.after →
-    Does was now node (steps ++ others) accesses
-does_both was mid now node steps others accesses first second = record {
+pub does_both : (was mid now : SessionValue) (node : ℕ) (steps others : List Step) (step_runs : List (List StepRun))
+    (first : Does was mid node steps step_runs) → Does mid now node others first.after →
+    Does was now node (steps ++ others) step_runs
+does_both was mid now node steps others step_runs first second = record {
   answers = first.answers ++ second.answers;
   after = second.after;
   does = steps_both first.does second.does;

@@ -7,9 +7,9 @@ use Rattle.sja_plan.specs.Limits.{most_bits}
 use Rattle.sja_plan.specs.declared.turn.Turn.{Turn}
 use Rattle.sja_plan.specs.declared.turn.Turn.TheVariants.{Node}
 use Rattle.sja_plan.specs.Plan.{PlanValue}
-use Rattle.sja_script.specs.declared.step.Step.{Step}
+use Rattle.sja_steps.specs.declared.step.Step.{Step}
 use Rattle.sja_serial.specs.Serial.{SerialValue}
-use Rattle.sja_serial.specs.Stepping.{DoesStep, WaitsFor, with_accesses}
+use Rattle.sja_serial.specs.Stepping.{DoesStep, WaitsFor, with_step_runs}
 use Rattle.sja_session.specs.declared.session_room.SessionRoom.{SessionRoom}
 use Rattle.sja_session.specs.Sessions.{AreNamed, session_of, setup_by, IsSession}
 use Rattle.sja_session.specs.Stepping.{HasTurn, MayStep}
@@ -28,21 +28,21 @@ module _ {room : SessionRoom} (plan : PlanValue) (was now : SerialValue) (steps 
   few_done k less = elim (cases_eq node k) [
     | inl e ↦ subst (λ (m : ℕ). length (slice_index_or (with_more steps node one) m []) ≤ room.steps) e
         (let long = ap (λ l. length l) (more_same steps node one
-        (near plan was now steps turns inv.accesses node one may.there inv.at)) in
+        (near plan was now steps turns inv.step_runs node one may.there inv.at)) in
         let sum = length-append (slice_index_or steps node []) (one ∷ []) in let left = may.left in
         omega (arith, long, sum, left))
     | inr differ ↦ let same = ap (λ l. length l) (more_other steps node k one (λ e. differ (sym e))) in
         let few = inv.done k less in omega (arith, same, few)
   ]
 
-  module _ (t : DoesStep (setup_by (session_of room was plan steps turns)) was now node one inv.accesses)
+  module _ (t : DoesStep (setup_by (session_of room was plan steps turns)) was now node one inv.step_runs)
       (items : List Turn) where
     pub after_done : (plan.bits ≤ most_bits plan.version → items ≡ with_turn turns (Node node 1)) →
         (most_bits plan.version < plan.bits → items ≡ turns) →
         IsSession (session_of room now plan (with_more steps node one) items) sizes capacity
     after_done noted stay = record {
-      accesses = with_accesses inv.accesses node (t.access ∷ []);
-      at = at_it plan was now steps turns inv.accesses node one may.there inv.at t items noted;
+      step_runs = with_step_runs inv.step_runs node (t.step_run ∷ []);
+      at = at_it plan was now steps turns inv.step_runs node one may.there inv.at t items noted;
       rules = inv.rules;
       places = inv.places;
       done = few_done;
@@ -68,7 +68,7 @@ module _ {room : SessionRoom} (plan : PlanValue) (was now : SerialValue) (steps 
         left end (inl endless) = absurd (omega (arith, end, endless))
         left end (inr has) = has
 
-  pub after_waiting : WaitsFor (setup_by (session_of room was plan steps turns)) was now node one inv.accesses →
+  pub after_waiting : WaitsFor (setup_by (session_of room was plan steps turns)) was now node one inv.step_runs →
       IsSession (session_of room now plan steps turns) sizes capacity
   after_waiting t =
-      session_at now plan.strikes inv (still_at plan was now steps turns inv.accesses node one may.there inv.at t)
+      session_at now plan.strikes inv (still_at plan was now steps turns inv.step_runs node one may.there inv.at t)

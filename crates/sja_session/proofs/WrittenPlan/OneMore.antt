@@ -3,19 +3,19 @@ use Rattle.std.proofs.Common.{◌≡◌, ◌≢◌, ℕ, zero, suc, ◌<◌, Lis
 use Rattle.std.proofs.Common.{◌∙◌, arith}
 use Rattle.std.proofs.lemmas.List.{length-map, length-set, get_or-set_same, get_or-set_other, map-append}
 use Rattle.std.specs.Prelude.{slice_index_or, slice_set}
-use Rattle.sja_link.specs.Recents.{Recents}
-use Rattle.sja_driver.specs.Accesses.{Access, accesses_at}
-use Rattle.sja_script.specs.declared.step.Step.{Step}
-use Rattle.sja_serial.specs.Stepping.{with_accesses}
+use Rattle.sja_journal.specs.BoundedHistories.{HistoryValue}
+use Rattle.sja_driver.specs.StepRuns.{StepRun, step_runs_at}
+use Rattle.sja_steps.specs.declared.step.Step.{Step}
+use Rattle.sja_serial.specs.Stepping.{with_step_runs}
 use Rattle.sja_session.specs.Sessions.{steps_in}
 use Rattle.sja_session.specs.Writing.{with_more}
 
 -- what is in lists that may forget, and for how much they were made
-abbrev pub listed : {A : Type 0} → List (Recents A) → List (List A)
-listed {A} lists = map (λ (list : Recents A). list.items) lists
+abbrev pub listed : {A : Type 0} → List (HistoryValue A) → List (List A)
+listed {A} lists = map (λ (list : HistoryValue A). list.items) lists
 
-abbrev pub rooms_of : {A : Type 0} → List (Recents A) → List ℕ
-rooms_of {A} lists = map (λ (list : Recents A). list.room) lists
+abbrev pub rooms_of : {A : Type 0} → List (HistoryValue A) → List ℕ
+rooms_of {A} lists = map (λ (list : HistoryValue A). list.room) lists
 
 pub more_set : {A B : Type 0} (f : A → List B) (xs : List A) (node : ℕ) (old new : A) (b : B) →
     old ≡ slice_index_or xs node old → node < length xs → f new ≡ f old ++ b ∷ [] →
@@ -49,21 +49,21 @@ more_long lists node x = length-set lists node (slice_index_or lists node [] ++ 
 -- ---- the steps that are written
 
 -- those of a node with one step more
-pub steps_more : (accesses : List (List Access)) (node : ℕ) (a : Access) → node < length accesses →
-    steps_in (with_accesses accesses node (a ∷ [])) ≡ with_more (steps_in accesses) node a.step
+pub steps_more : (step_runs : List (List StepRun)) (node : ℕ) (a : StepRun) → node < length step_runs →
+    steps_in (with_step_runs step_runs node (a ∷ [])) ≡ with_more (steps_in step_runs) node a.step
 steps_more [] node a less = absurd (omega (arith, less))
-steps_more (x ∷ accesses) zero a less =
-    ap (λ l. l ∷ steps_in accesses) (map-append (λ (e : Access). e.step) x (a ∷ []))
-steps_more (x ∷ accesses) (suc node) a less =
-    ap (λ l. map (λ (e : Access). e.step) x ∷ l) (steps_more accesses node a (omega (arith, less)))
+steps_more (x ∷ step_runs) zero a less =
+    ap (λ l. l ∷ steps_in step_runs) (map-append (λ (e : StepRun). e.step) x (a ∷ []))
+steps_more (x ∷ step_runs) (suc node) a less =
+    ap (λ l. map (λ (e : StepRun). e.step) x ∷ l) (steps_more step_runs node a (omega (arith, less)))
 
 -- as many are written as were done
-pub steps_many : (steps : List (List Step)) (accesses : List (List Access)) (node : ℕ) → steps_in accesses ≡ steps →
-    length (slice_index_or steps node []) ≡ length (accesses_at accesses node)
-steps_many steps accesses node is = ap (λ (l : List (List Step)). length (slice_index_or l node [])) (sym is)
-    ∙ by accesses node
+pub steps_many : (steps : List (List Step)) (step_runs : List (List StepRun)) (node : ℕ) → steps_in step_runs ≡ steps →
+    length (slice_index_or steps node []) ≡ length (step_runs_at step_runs node)
+steps_many steps step_runs node is = ap (λ (l : List (List Step)). length (slice_index_or l node [])) (sym is)
+    ∙ by step_runs node
   where
-    by : (l : List (List Access)) (k : ℕ) → length (slice_index_or (steps_in l) k []) ≡ length (accesses_at l k)
+    by : (l : List (List StepRun)) (k : ℕ) → length (slice_index_or (steps_in l) k []) ≡ length (step_runs_at l k)
     by [] k = refl
-    by (x ∷ l) zero = length-map x (λ (a : Access). a.step)
+    by (x ∷ l) zero = length-map x (λ (a : StepRun). a.step)
     by (x ∷ l) (suc k) = by l k

@@ -9,8 +9,8 @@ use Rattle.std.proofs.lemmas.List.Elements.{All-push}
 use Rattle.sja_plan.specs.declared.turn.Turn.{Turn}
 use Rattle.sja_plan.specs.declared.turn.Turn.TheVariants.{Bus, Rest, Node, All as AllSteps, Irq, Go}
 use Rattle.sja_plan.specs.Plan.{NamesNode}
-use Rattle.sja_driver.specs.Accesses.{Access, accesses_at}
-use Rattle.sja_log.specs.Turns.{Progress, with_bits, with_steps, steps_done}
+use Rattle.sja_driver.specs.StepRuns.{StepRun, step_runs_at}
+use Rattle.sja_promises.specs.Turns.{Progress, with_bits, with_steps, steps_done}
 use Rattle.sja_session.specs.Sessions.{Took, AreNamed}
 use Rattle.sja_session.specs.Sessions.Took.{none, bus, node}
 use Rattle.sja_session.specs.Turning.{goes_on, size_of, enlarged, on_latest, with_turn, goes_on_latest, latest_size}
@@ -120,54 +120,55 @@ bits_twice turns n m =
 -- ---- where they led
 
 -- the last turn, by what it was
-abbrev Ends : List (List Access) → Progress → List Turn → Progress → Type 0
-Ends accesses first [] p = Unit {0}
-Ends accesses first (Bus n ∷ earlier) p = (q : Progress) × Took accesses first earlier q × (p ≡ with_bits q n)
-Ends accesses first (Node k n ∷ earlier) p = (q : Progress) × Took accesses first earlier q
-    × (steps_done q k + n ≤ length (accesses_at accesses k))
-    × ((i : ℕ) (d : Access) → i < n → (slice_index_or (accesses_at accesses k) (steps_done q k + i) d).bits ≡ q.bits)
+abbrev Ends : List (List StepRun) → Progress → List Turn → Progress → Type 0
+Ends step_runs first [] p = Unit {0}
+Ends step_runs first (Bus n ∷ earlier) p = (q : Progress) × Took step_runs first earlier q × (p ≡ with_bits q n)
+Ends step_runs first (Node k n ∷ earlier) p = (q : Progress) × Took step_runs first earlier q
+    × (steps_done q k + n ≤ length (step_runs_at step_runs k))
+    × ((i : ℕ) (d : StepRun) → i < n → (slice_index_or (step_runs_at step_runs k) (steps_done q k + i) d).bits ≡ q.bits)
     × (p ≡ with_steps q k n)
-Ends accesses first (Rest ∷ earlier) p = ⊥
-Ends accesses first (AllSteps k ∷ earlier) p = ⊥
-Ends accesses first (Irq k n ∷ earlier) p = ⊥
-Ends accesses first (Go ∷ earlier) p = ⊥
+Ends step_runs first (Rest ∷ earlier) p = ⊥
+Ends step_runs first (AllSteps k ∷ earlier) p = ⊥
+Ends step_runs first (Irq k n ∷ earlier) p = ⊥
+Ends step_runs first (Go ∷ earlier) p = ⊥
 
-ends : (accesses : List (List Access)) (first : Progress) (l : List Turn) (p : Progress) → Took accesses first l p →
-    Ends accesses first l p
-ends accesses first l p none = tt
-ends accesses first l p (bus earlier q n h) = (q, h, refl)
-ends accesses first l p (node earlier q k n h exist now) = (q, h, exist, now, refl)
+ends : (step_runs : List (List StepRun)) (first : Progress) (l : List Turn) (p : Progress) → Took step_runs first l p →
+    Ends step_runs first l p
+ends step_runs first l p none = tt
+ends step_runs first l p (bus earlier q n h) = (q, h, refl)
+ends step_runs first l p (node earlier q k n h exist now) = (q, h, exist, now, refl)
 
 -- a turn of the bus that goes on
-more_bits : (accesses : List (List Access)) (first : Progress) (earlier : List Turn) (p : Progress) (n m : ℕ) →
-    Took accesses first (Bus m ∷ Bus n ∷ earlier) p → Took accesses first (Bus (n + m) ∷ earlier) p
-more_bits accesses first earlier p n m h =
-    let x = ends accesses first (Bus m ∷ Bus n ∷ earlier) p h in
-    let y = ends accesses first (Bus n ∷ earlier) x.0 x.1 in
+more_bits : (step_runs : List (List StepRun)) (first : Progress) (earlier : List Turn) (p : Progress) (n m : ℕ) →
+    Took step_runs first (Bus m ∷ Bus n ∷ earlier) p → Took step_runs first (Bus (n + m) ∷ earlier) p
+more_bits step_runs first earlier p n m h =
+    let x = ends step_runs first (Bus m ∷ Bus n ∷ earlier) p h in
+    let y = ends step_runs first (Bus n ∷ earlier) x.0 x.1 in
     let sum : y.0.bits + n + m ≡ y.0.bits + (n + m) = omega arith in
     let both : with_bits (with_bits y.0 n) m ≡ with_bits y.0 (n + m) = ap (λ b. let q : Progress =
     record { bits = b; done = y.0.done } in q) sum in
-    subst (λ (q : Progress). Took accesses first (Bus (n + m) ∷ earlier) q)
+    subst (λ (q : Progress). Took step_runs first (Bus (n + m) ∷ earlier) q)
     (sym (x.2 ∙ ap (λ q. with_bits q m) y.2 ∙ both)) (bus earlier y.0 (n + m) y.1)
 
 -- a turn of a node that goes on
-more_steps : (accesses : List (List Access)) (first : Progress) (earlier : List Turn) (p : Progress) (k n m : ℕ) →
-    k < length p.done → Took accesses first (Node k m ∷ Node k n ∷ earlier) p →
-    Took accesses first (Node k (n + m) ∷ earlier) p
-more_steps accesses first earlier p k n m there h =
-    let x = ends accesses first (Node k m ∷ Node k n ∷ earlier) p h in
-    let y = ends accesses first (Node k n ∷ earlier) x.0 x.1 in
+more_steps : (step_runs : List (List StepRun)) (first : Progress) (earlier : List Turn) (p : Progress) (k n m : ℕ) →
+    k < length p.done → Took step_runs first (Node k m ∷ Node k n ∷ earlier) p →
+    Took step_runs first (Node k (n + m) ∷ earlier) p
+more_steps step_runs first earlier p k n m there h =
+    let x = ends step_runs first (Node k m ∷ Node k n ∷ earlier) p h in
+    let y = ends step_runs first (Node k n ∷ earlier) x.0 x.1 in
     joined x.0 y.0 x.2 x.3 x.4 y.1 y.2 y.3 y.4
   where
-    joined : (mid q : Progress) → steps_done mid k + m ≤ length (accesses_at accesses k) →
-        ((i : ℕ) (d : Access) → i < m → (slice_index_or (accesses_at accesses k) (steps_done mid k + i) d).bits ≡
+    joined : (mid q : Progress) → steps_done mid k + m ≤ length (step_runs_at step_runs k) →
+        ((i : ℕ) (d : StepRun) → i < m → (slice_index_or (step_runs_at step_runs k) (steps_done mid k + i) d).bits ≡
         mid.bits) →
-        p ≡ with_steps mid k m → Took accesses first earlier q → steps_done q k + n ≤ length (accesses_at accesses k) →
-        ((i : ℕ) (d : Access) → i < n → (slice_index_or (accesses_at accesses k) (steps_done q k + i) d).bits ≡
+        p ≡ with_steps mid k m → Took step_runs first earlier q → steps_done q k + n ≤ length
+        (step_runs_at step_runs k) →
+        ((i : ℕ) (d : StepRun) → i < n → (slice_index_or (step_runs_at step_runs k) (steps_done q k + i) d).bits ≡
         q.bits) →
-        mid ≡ with_steps q k n → Took accesses first (Node k (n + m) ∷ earlier) p
+        mid ≡ with_steps q k n → Took step_runs first (Node k (n + m) ∷ earlier) p
     joined mid q exist now to took exist_before now_before from =
-        subst (λ (z : Progress). Took accesses first (Node k (n + m) ∷ earlier) z) (sym whole)
+        subst (λ (z : Progress). Took step_runs first (Node k (n + m) ∷ earlier) z) (sym whole)
         (node earlier q k (n + m) took (omega (arith, exist, so_far)) at)
       where
         inside : k < length q.done
@@ -190,70 +191,71 @@ more_steps accesses first earlier p k n m there h =
             let bits : mid.bits ≡ q.bits = ap (λ (z : Progress). z.bits) from in
             to ∙ (λ i. let z : Progress = record { bits = bits i; done = done i } in z)
 
-        at : (i : ℕ) (d : Access) → i < n + m →
-            (slice_index_or (accesses_at accesses k) (steps_done q k + i) d).bits ≡ q.bits
+        at : (i : ℕ) (d : StepRun) → i < n + m →
+            (slice_index_or (step_runs_at step_runs k) (steps_done q k + i) d).bits ≡ q.bits
         at i d less = elim (cases_lt i n) [
           | inl few ↦ now_before i d few
           | inr more ↦
               let s = so_far in
               let place : steps_done q k + i ≡ steps_done mid k + (i - n) = omega (arith, s, more) in
-              ap (λ j. (slice_index_or (accesses_at accesses k) j d).bits) place
+              ap (λ j. (slice_index_or (step_runs_at step_runs k) j d).bits) place
               ∙ now (i - n) d (omega (arith, less, more)) ∙ ap (λ (z : Progress). z.bits) from
         ]
 
-joins : (accesses : List (List Access)) (first : Progress) (t u : Turn) (earlier : List Turn) (p : Progress) →
-    ((k n : ℕ) → t ≡ Node k n → k < length p.done) → goes_on u t ≡ true → Took accesses first (t ∷ u ∷ earlier) p →
-    Took accesses first (enlarged u (size_of t) ∷ earlier) p
-joins accesses first (Bus m) (Bus n) earlier p there goes h = more_bits accesses first earlier p n m h
-joins accesses first (Node k m) (Node j n) earlier p there goes h =
+joins : (step_runs : List (List StepRun)) (first : Progress) (t u : Turn) (earlier : List Turn) (p : Progress) →
+    ((k n : ℕ) → t ≡ Node k n → k < length p.done) → goes_on u t ≡ true → Took step_runs first (t ∷ u ∷ earlier) p →
+    Took step_runs first (enlarged u (size_of t) ∷ earlier) p
+joins step_runs first (Bus m) (Bus n) earlier p there goes h = more_bits step_runs first earlier p n m h
+joins step_runs first (Node k m) (Node j n) earlier p there goes h =
     let e = eqb-true j k goes in
-    subst (λ x. Took accesses first (Node x (n + m) ∷ earlier) p) (sym e)
-    (more_steps accesses first earlier p k n m (there k m refl)
-    (subst (λ x. Took accesses first (Node k m ∷ Node x n ∷ earlier) p) e h))
-joins accesses first (Node k m) (Bus n) earlier p there goes h = absurd cc
-joins accesses first (Node k m) Rest earlier p there goes h = absurd cc
-joins accesses first (Node k m) (AllSteps j) earlier p there goes h = absurd cc
-joins accesses first (Node k m) (Irq j n) earlier p there goes h = absurd cc
-joins accesses first (Node k m) Go earlier p there goes h = absurd cc
-joins accesses first (Bus m) (Node j n) earlier p there goes h = absurd cc
-joins accesses first (Bus m) Rest earlier p there goes h = absurd cc
-joins accesses first (Bus m) (AllSteps j) earlier p there goes h = absurd cc
-joins accesses first (Bus m) (Irq j n) earlier p there goes h = absurd cc
-joins accesses first (Bus m) Go earlier p there goes h = absurd cc
-joins accesses first Rest u earlier p there goes h = absurd (ends accesses first (Rest ∷ u ∷ earlier) p h)
-joins accesses first (AllSteps k) u earlier p there goes h =
-    absurd (ends accesses first (AllSteps k ∷ u ∷ earlier) p h)
-joins accesses first (Irq k m) u earlier p there goes h = absurd (ends accesses first (Irq k m ∷ u ∷ earlier) p h)
-joins accesses first Go u earlier p there goes h = absurd (ends accesses first (Go ∷ u ∷ earlier) p h)
+    subst (λ x. Took step_runs first (Node x (n + m) ∷ earlier) p) (sym e)
+    (more_steps step_runs first earlier p k n m (there k m refl)
+    (subst (λ x. Took step_runs first (Node k m ∷ Node x n ∷ earlier) p) e h))
+joins step_runs first (Node k m) (Bus n) earlier p there goes h = absurd cc
+joins step_runs first (Node k m) Rest earlier p there goes h = absurd cc
+joins step_runs first (Node k m) (AllSteps j) earlier p there goes h = absurd cc
+joins step_runs first (Node k m) (Irq j n) earlier p there goes h = absurd cc
+joins step_runs first (Node k m) Go earlier p there goes h = absurd cc
+joins step_runs first (Bus m) (Node j n) earlier p there goes h = absurd cc
+joins step_runs first (Bus m) Rest earlier p there goes h = absurd cc
+joins step_runs first (Bus m) (AllSteps j) earlier p there goes h = absurd cc
+joins step_runs first (Bus m) (Irq j n) earlier p there goes h = absurd cc
+joins step_runs first (Bus m) Go earlier p there goes h = absurd cc
+joins step_runs first Rest u earlier p there goes h = absurd (ends step_runs first (Rest ∷ u ∷ earlier) p h)
+joins step_runs first (AllSteps k) u earlier p there goes h =
+    absurd (ends step_runs first (AllSteps k ∷ u ∷ earlier) p h)
+joins step_runs first (Irq k m) u earlier p there goes h = absurd (ends step_runs first (Irq k m ∷ u ∷ earlier) p h)
+joins step_runs first Go u earlier p there goes h = absurd (ends step_runs first (Go ∷ u ∷ earlier) p h)
 
-took_latest : (accesses : List (List Access)) (first : Progress) (t : Turn) (l : List Turn) (p : Progress) →
-    ((k n : ℕ) → t ≡ Node k n → k < length p.done) → Took accesses first (t ∷ l) p →
-    Took accesses first (on_latest t l) p
-took_latest accesses first t [] p there h = h
-took_latest accesses first t (u ∷ earlier) p there h = by_choice (λ l. Took accesses first l p) (goes_on u t)
-    (enlarged u (size_of t) ∷ earlier) (t ∷ u ∷ earlier) (λ goes. joins accesses first t u earlier p there goes h)
+took_latest : (step_runs : List (List StepRun)) (first : Progress) (t : Turn) (l : List Turn) (p : Progress) →
+    ((k n : ℕ) → t ≡ Node k n → k < length p.done) → Took step_runs first (t ∷ l) p →
+    Took step_runs first (on_latest t l) p
+took_latest step_runs first t [] p there h = h
+took_latest step_runs first t (u ∷ earlier) p there h = by_choice (λ l. Took step_runs first l p) (goes_on u t)
+    (enlarged u (size_of t) ∷ earlier) (t ∷ u ∷ earlier) (λ goes. joins step_runs first t u earlier p there goes h)
     (λ stays. h)
 
 -- turns that led to a point with one more behind them led there too where that one goes on with the last
-pub took_turn : (accesses : List (List Access)) (first : Progress) (t : Turn) (turns : List Turn) (p : Progress) →
-    ((k n : ℕ) → t ≡ Node k n → k < length p.done) → Took accesses first (t ∷ reverse turns) p →
-    Took accesses first (reverse (with_turn turns t)) p
-took_turn accesses first t turns p there h = subst (λ (l : List Turn). Took accesses first l p)
+pub took_turn : (step_runs : List (List StepRun)) (first : Progress) (t : Turn) (turns : List Turn) (p : Progress) →
+    ((k n : ℕ) → t ≡ Node k n → k < length p.done) → Took step_runs first (t ∷ reverse turns) p →
+    Took step_runs first (reverse (with_turn turns t)) p
+took_turn step_runs first t turns p there h = subst (λ (l : List Turn). Took step_runs first l p)
     (sym (latest_of turns t))
-    (took_latest accesses first t (reverse turns) p there h)
+    (took_latest step_runs first t (reverse turns) p there h)
 
 -- ---- how large they are
 
 -- the last turn has no more bits than were run, and no more steps than were done
-pub latest_few : (accesses : List (List Access)) (first : Progress) (l : List Turn) (p : Progress) (most : ℕ) →
-    p.bits ≤ most → ((k : ℕ) → length (accesses_at accesses k) ≤ most) → Took accesses first l p → latest_size l ≤ most
-latest_few accesses first [] p most bits steps h = omega arith
-latest_few accesses first (Bus n ∷ earlier) p most bits steps h =
-    let x = ends accesses first (Bus n ∷ earlier) p h in
+pub latest_few : (step_runs : List (List StepRun)) (first : Progress) (l : List Turn) (p : Progress) (most : ℕ) →
+    p.bits ≤ most → ((k : ℕ) → length (step_runs_at step_runs k) ≤ most) → Took step_runs first l p →
+    latest_size l ≤ most
+latest_few step_runs first [] p most bits steps h = omega arith
+latest_few step_runs first (Bus n ∷ earlier) p most bits steps h =
+    let x = ends step_runs first (Bus n ∷ earlier) p h in
     let e = ap (λ (q : Progress). q.bits) x.2 in omega (arith, e, bits)
-latest_few accesses first (Node k n ∷ earlier) p most bits steps h =
-    let x = ends accesses first (Node k n ∷ earlier) p h in let e = x.2 in let s = steps k in omega (arith, e, s)
-latest_few accesses first (Rest ∷ earlier) p most bits steps h = omega arith
-latest_few accesses first (AllSteps k ∷ earlier) p most bits steps h = omega arith
-latest_few accesses first (Irq k n ∷ earlier) p most bits steps h = omega arith
-latest_few accesses first (Go ∷ earlier) p most bits steps h = omega arith
+latest_few step_runs first (Node k n ∷ earlier) p most bits steps h =
+    let x = ends step_runs first (Node k n ∷ earlier) p h in let e = x.2 in let s = steps k in omega (arith, e, s)
+latest_few step_runs first (Rest ∷ earlier) p most bits steps h = omega arith
+latest_few step_runs first (AllSteps k ∷ earlier) p most bits steps h = omega arith
+latest_few step_runs first (Irq k n ∷ earlier) p most bits steps h = omega arith
+latest_few step_runs first (Go ∷ earlier) p most bits steps h = omega arith

@@ -1,12 +1,12 @@
 -- What is written of a plan and of turns (this project's own rule).
 use Rattle.std.specs.Prelude.{◌≡◌, ◌≤◌, ◌<◌, ◌⊎◌, ◌^◌, nat_lt, if◌then◌else◌, ℕ, [], length, replicate, zero, suc, List}
-use Rattle.sja_link.specs.Recents.{Recents}
+use Rattle.sja_journal.specs.BoundedHistories.{HistoryValue}
 use Rattle.sja_plan.specs.Growing.{plan_of}
 use Rattle.sja_plan.specs.Limits.{most_bits}
 use Rattle.sja_plan.specs.Plan.{PlanValue}
 use Rattle.sja_plan.specs.declared.turn.Turn.{Turn}
 use Rattle.sja_plan.specs.declared.turn.Turn.TheVariants.{Bus}
-use Rattle.sja_script.specs.declared.strike.Strike.{Strike}
+use Rattle.sja_steps.specs.declared.strike.Strike.{Strike}
 use Rattle.sja_session.specs.declared.session_room.SessionRoom.{SessionRoom}
 use Rattle.sja_session.specs.Beginning.{IsRoom}
 use Rattle.sja_session.specs.Turning.{with_turn}
@@ -38,6 +38,6 @@ abbrev pub beside_for : PlanValue → ℕ → ℕ
 beside_for p bits = if nat_lt p.bits bits then 2 ^ 56 else 0
 
 -- a session goes by a plan for its own bits, and holds no strikes beside it; or for more than it may have
-abbrev pub GoesBy : PlanValue → ℕ → Recents Strike → Type 0
+abbrev pub GoesBy : PlanValue → ℕ → HistoryValue Strike → Type 0
 GoesBy p bits struck = ((bits ≡ p.bits) × (struck.items ≡ []))
     ⊎ ((most_bits p.version < bits) × (p.strikes ≡ []) × (struck.room ≡ 2 ^ 56))

@@ -1,5 +1,5 @@
 -- What is written for numbers, one after another.
-use Rattle.std.proofs.Common.{◌≡◌, ℕ, ◌+◌, ◌≤◌, List, ◌++◌, sym, ap, ◌∙◌, arith, append_assoc}
+use Rattle.std.proofs.Common.{◌≡◌, ℕ, ◌+◌, List, ◌++◌, sym, ap, ◌∙◌, append_assoc}
 use Rattle.std.specs.List.{range_with_len}
 use Rattle.lemmas.specs.Gathering.{gathered}
 use Rattle.lemmas.proofs.Ranges.{gathered_to}
@@ -11,9 +11,3 @@ pub text_more : {B : Type 0} (f : ℕ → List B) (i : ℕ) (begun text new : Li
 text_more f i begun text new so_far wrote =
     wrote ∙ ap (λ t. t ++ f i) so_far ∙ append_assoc begun (gathered f (range_with_len 0 i)) (f i)
     ∙ ap (λ l. begun ++ l) (sym (gathered_to f i))
-
--- of all of them
-pub text_all : {B : Type 0} (f : ℕ → List B) (i n : ℕ) (begun text : List B) → i ≤ n → n ≤ i →
-    text ≡ begun ++ gathered f (range_with_len 0 i) → text ≡ begun ++ gathered f (range_with_len 0 n)
-text_all f i n begun text low high so_far =
-    let same : i ≡ n = omega arith in so_far ∙ ap (λ (k : ℕ). begun ++ gathered f (range_with_len 0 k)) same

@@ -1,11 +1,9 @@
 -- What the entries of a journal come to, those between its bits too.
-use Rattle.std.proofs.Common.{◌≡◌, ◌+◌, List, [], ◌∷◌, ◌++◌, refl, ap, arith}
-use Rattle.std.proofs.lemmas.List.{map-append}
-use Rattle.can_node.specs.Bits.{driven_of}
-use Rattle.sja_link.specs.declared.entry.Entry.{Entry}
-use Rattle.sja_link.specs.declared.entry.Entry.TheVariants.{Bit, Up as Item, Abort, Stored, Overrun, Off}
-use Rattle.sja_link.specs.Carried.{bit_in, bits_of, overrun_of}
-use Rattle.sja_link.specs.Between.{between_bits}
+use Rattle.std.proofs.Common.{◌≡◌, List, [], ◌∷◌, refl, ap, arith}
+use Rattle.sja_journal.specs.declared.entry.Entry.{Entry}
+use Rattle.sja_journal.specs.declared.entry.Entry.TheVariants.{Bit, Up as Item, Abort, Stored, Overrun, Off}
+use Rattle.sja_journal.specs.Carried.{overrun_of}
+use Rattle.sja_journal.specs.Between.{between_bits}
 use Rattle.sja_sweep.specs.Changes.{times_off}
 
 -- the messages that were overrun, and how often it went bus-off, stand between the bits
@@ -26,8 +24,3 @@ off_between (Abort ∷ j) = let so_far = off_between j in omega (arith, so_far)
 off_between (Stored m ∷ j) = let so_far = off_between j in omega (arith, so_far)
 off_between (Overrun m ∷ j) = let so_far = off_between j in omega (arith, so_far)
 off_between (Off ∷ j) = let so_far = off_between j in omega (arith, so_far)
-
--- the levels that are driven with an entry, and behind it
-pub driven_next : (e : Entry) (es : List Entry) →
-    driven_of (bits_of (e ∷ es)) ≡ driven_of (bit_in e) ++ driven_of (bits_of es)
-driven_next e es = map-append _ (bit_in e) (bits_of es)

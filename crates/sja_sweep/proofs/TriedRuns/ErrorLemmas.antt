@@ -4,9 +4,9 @@ use Rattle.std.proofs.Common.{subst, append_assoc}
 use Rattle.std.proofs.lemmas.List.{append-nil, map-append, take_more, get_or-map}
 use Rattle.std.proofs.lemmas.Slice.Zip.{AllZip-long}
 use Rattle.lemmas.proofs.Related.{related_push}
-use Rattle.can_node.specs.declared.cause.Cause.{Cause}
-use Rattle.sja_link.specs.declared.entry.Entry.{Entry}
-use Rattle.sja_replay.specs.declared.happening.Happening.{Happening}
+use Rattle.can_node_rules.specs.declared.cause.Cause.{Cause}
+use Rattle.sja_journal.specs.declared.entry.Entry.{Entry}
+use Rattle.sja_replay.specs.declared.bit_event.BitEvent.{BitEvent}
 use Rattle.sja_replay.specs.declared.replay.Replay.{Replay}
 use Rattle.sja_replay.specs.Happened.{Happened}
 use Rattle.sja_replay.specs.Replaying.{left_of, IsAt, GoesOn}
@@ -19,9 +19,9 @@ use Rattle.sja_sweep.specs.Inside.Reaching.{HaveErrors}
 pub record AreErrorsSoFar (journal : List Entry) (r : Replay) (errors : List (Option Cause)) : Type 0 where
   pub before : List Entry
   pub at : IsAt r before
-  pub told : List Happening
+  pub told : List BitEvent
   pub are : errors ≡ map error_in told
-  pub leads : (more : List Happening) → Happened before (left_of r) more → Happened [] journal (told ++ more)
+  pub leads : (more : List BitEvent) → Happened before (left_of r) more → Happened [] journal (told ++ more)
 
 -- before the first entry
 pub errors_begun : (journal : List Entry) (r : Replay) (errors : List (Option Cause)) → IsAt r [] →
@@ -35,7 +35,7 @@ errors_begun journal r errors at left none = record {
 }
 
 -- after a bit more
-pub errors_more : (journal : List Entry) (old new : Replay) (errors longer : List (Option Cause)) (h : Happening) →
+pub errors_more : (journal : List Entry) (old new : Replay) (errors longer : List (Option Cause)) (h : BitEvent) →
     AreErrorsSoFar journal old errors →
     ((before : List Entry) → IsAt old before → GoesOn old new before (h ∷ [])) → longer ≡ errors ++ error_in h ∷ [] →
     AreErrorsSoFar journal new longer
@@ -45,7 +45,7 @@ errors_more journal old new errors longer h so_far goes pushed =
       at = on.at;
       told = so_far.told ++ h ∷ [];
       are = pushed ∙ ap (λ l. l ++ error_in h ∷ []) so_far.are ∙ sym (map-append error_in so_far.told (h ∷ []));
-      leads = λ more happened. subst (λ (l : List Happening). Happened [] journal l)
+      leads = λ more happened. subst (λ (l : List BitEvent). Happened [] journal l)
           (sym (append_assoc so_far.told (h ∷ []) more)) (so_far.leads (h ∷ more) (on.leads more happened));
     }
 

@@ -1,6 +1,6 @@
 -- Runs of bits, one strike after another.
 use Rattle.std.proofs.Common.{◌≡◌, ℕ, ◌+◌, Bool, true, false, cond, ◌&&◌, List, [], ◌∷◌, ◌++◌, refl, sym, ap, ap₂, ◌∙◌}
-use Rattle.std.proofs.Common.{append-nil, append_assoc, ◌<◌, length, map, drop, get_or}
+use Rattle.std.proofs.Common.{append_assoc, ◌<◌, length, map, drop, get_or}
 use Rattle.std.specs.Str.{bytes_eq}
 use Rattle.std.proofs.lemmas.Slice.Eq.{bytes_eq-Decides}
 use Rattle.lemmas.specs.Gathering.{gathered}
@@ -69,11 +69,6 @@ text_apart f text new whole o n ss h wrote so_far =
     ap (λ t. t ++ gathered f (before_all n ss)) wrote
     ∙ append_assoc text (f o) (gathered f (before_all n ss))
     ∙ ap (λ l. text ++ gathered f l) (sym (before_apart o n ss h)) ∙ so_far
-
--- the last one is written
-pub text_end : (f : SpanValue → List ℕ) (text new whole : List ℕ) (o : SpanValue) → new ≡ text ++ f o →
-    text ++ gathered f (before_all o []) ≡ whole → new ≡ whole
-text_end f text new whole o wrote so_far = wrote ∙ ap (λ t. text ++ t) (sym (append-nil (f o))) ∙ so_far
 
 -- those of the outcomes that are left: the first one before the others
 pub told_next : (rest : List TrialOutcome) (i : ℕ) (told : TrialOutcome) (n : SpanValue) → i < length rest →

@@ -8,7 +8,7 @@ use Rattle.sja_plan.specs.Limits.{most_strikes}
 use Rattle.sja_plan.specs.Plan.{PlanValue, times_in}
 use Rattle.sja_log.specs.Log.{NodeValue}
 use Rattle.sja_log.specs.declared.run_fault.RunFault.TheVariants.{Memory as NoMemory}
-use Rattle.can_node.specs.declared.cause.Cause.{Cause}
+use Rattle.can_node_rules.specs.declared.cause.Cause.{Cause}
 use Rattle.sja_sweep.specs.declared.trial_run.TrialRun.{TrialRun}
 use Rattle.sja_sweep.specs.Errors.{HasErrors, TrialRunValue}
 use Rattle.sja_sweep.specs.declared.span.Span.{Span}

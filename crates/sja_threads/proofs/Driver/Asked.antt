@@ -1,9 +1,9 @@
 -- What a gate answered, by what is known of it.
 use Rattle.std.proofs.Common.{◌≡◌, ◌≢◌, ℕ, Bool, subst}
 use Rattle.std.specs.Prelude.{Option}
-use Rattle.sja_threads.specs.declared.pass.Pass.{Pass}
-use Rattle.sja_threads.specs.declared.pass.Pass.TheVariants.{Go, Hold, Quit}
-use Rattle.sja_threads.specs.Asking.{HasAnswered, pass_if, pass_of}
+use Rattle.sja_thread_promises.specs.declared.pass.Pass.{Pass}
+use Rattle.sja_thread_promises.specs.declared.pass.Pass.TheVariants.{Go, Hold, Quit}
+use Rattle.sja_thread_promises.specs.Asking.{HasAnswered, pass_if, pass_of}
 
 -- a gate that lets a try go, or holds it, doesn't quit
 pub go_on : Go ≢ Quit
@@ -19,7 +19,7 @@ module _ {G : Type 0} (answered : G → ℕ → ℕ → ℕ → Pass → Type 0)
     pub at_node : (pass : Pass) → answered gate was step tries pass → answered gate node step tries pass
     at_node pass says = subst (λ (n : ℕ). answered gate n step tries pass) same says
 
-    -- by whether a step was done, or a deed
+    -- by whether a step was done, or an act
     pub when : (done is : Bool) → done ≡ is → answered gate was step tries (pass_of done) →
         answered gate node step tries (pass_of is)
     when done is e says = at_node (pass_of is) (subst (λ (b : Bool). answered gate was step tries (pass_of b)) e says)

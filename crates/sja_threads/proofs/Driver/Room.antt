@@ -1,4 +1,4 @@
--- Of the deeds that a write is only the last one takes room in the log, and a step takes that of one release at most.
+-- Of the acts that a write is only the last one takes room in the log, and a step takes that of one release at most.
 use Rattle.std.proofs.Common.{◌≤◌, ◌+◌, ◌==◌, ◌||◌, ◌++◌, ℕ, Bool, true, false, cond, Option, Some, None, List}
 use Rattle.std.proofs.Common.{[], ◌∷◌}
 use Rattle.std.proofs.Common.{length, refl, sym, ap, ◌∙◌, subst, arith, append-nil, append_assoc}
@@ -11,11 +11,11 @@ use Rattle.sja_regs.specs.Commands.{command_of}
 use Rattle.sja_regs.specs.Modes.{mode_of}
 use Rattle.sja_regs.specs.Registers.{is_forced}
 use Rattle.sja_regs.specs.Writing.{is_other_mode}
-use Rattle.sja_script.specs.declared.step.Step.{Step}
-use Rattle.sja_script.specs.declared.step.Step.TheVariants.{Start, Stop, Window, Release, Read, Write, Load, Command}
-use Rattle.sja_script.specs.declared.step.Step.TheVariants.{Await, Sent, Interrupt, At}
+use Rattle.sja_steps.specs.declared.step.Step.{Step}
+use Rattle.sja_steps.specs.declared.step.Step.TheVariants.{Start, Stop, Window, Release, Read, Write, Load, Command}
+use Rattle.sja_steps.specs.declared.step.Step.TheVariants.{Await, Sent, Interrupt, At}
 use Rattle.sja_driver.specs.declared.write_steps.WriteSteps.{WriteSteps}
-use Rattle.sja_driver.specs.CommandWrites.{command_byte, command_steps, commands, doable, releases}
+use Rattle.sja_driver.specs.CommandWrites.{command_byte, command_steps, commands, permitted_part, releases}
 use Rattle.sja_driver.specs.ModeWrites.{closing, leaving, mode_steps, reset_byte}
 use Rattle.sja_driver.specs.WriteLists.{listed, steps_in}
 use Rattle.sja_driver.specs.Writes.{write_steps}
@@ -109,7 +109,7 @@ mode_last now forced out value =
 
 command_last : (p : Registers) (c : CommandBits) → LastTakes (command_steps p c)
 command_last p c =
-    let byte = command_byte (doable p c) in
+    let byte = command_byte (permitted_part p c) in
     either p.mode.rm [] (commands byte ++ releases c.rrb) tt (commands_last (byte == 0) c.rrb byte)
 
 pub write_last : (p : Registers) (out : Bool) (address value : ℕ) → LastTakes (write_steps p out address value)

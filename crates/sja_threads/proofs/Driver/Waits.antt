@@ -4,19 +4,19 @@ use Rattle.std.proofs.Common.{arith, inl, inr}
 use Rattle.sja_link.specs.declared.driver_end.DriverEnd.{Ghosts as Ends}
 use Rattle.sja_regs.specs.declared.registers.Registers.{Registers}
 use Rattle.sja_regs.specs.DriverSettings.{SettingsValue, HasSettings}
-use Rattle.sja_script.specs.declared.refusal.Refusal.TheVariants.{Closed}
-use Rattle.sja_script.specs.declared.step.Step.TheVariants.{Read, At}
-use Rattle.sja_script.specs.declared.step_answer.StepAnswer.{StepAnswer}
-use Rattle.sja_script.specs.declared.step_answer.StepAnswer.TheVariants.{Done as DoneAnswer, Refused}
-use Rattle.sja_driver.specs.Accesses.{Answers, by_bytes, deed_steps}
-use Rattle.sja_driver.specs.Deeds.{is_active}
+use Rattle.sja_steps.specs.declared.refusal.Refusal.TheVariants.{Closed}
+use Rattle.sja_steps.specs.declared.step.Step.TheVariants.{Read, At}
+use Rattle.sja_steps.specs.declared.step_answer.StepAnswer.{StepAnswer}
+use Rattle.sja_steps.specs.declared.step_answer.StepAnswer.TheVariants.{Done as DoneAnswer, Refused}
+use Rattle.sja_driver.specs.StepRuns.{Answers, by_bytes, act_steps}
+use Rattle.sja_driver.specs.TypedActs.{is_active}
 use Rattle.sja_driver.specs.Drivers.{nothing_seen}
 use Rattle.sja_driver.specs.LoggedDrivers.{kept_of}
 use Rattle.sja_driver.specs.declared.logged_driver.LoggedDriver.{LoggedDriver}
 use Rattle.sja_threads.specs.declared.order.Order.{Ghosts as Orders}
 use Rattle.sja_threads.specs.declared.driver_thread.DriverThread.{DriverThread}
-use Rattle.sja_threads.specs.Accessing.{IsAccessAt}
-use Rattle.sja_threads.specs.Inside.Accesses.{DoesStep, EndsWait}
+use Rattle.sja_thread_promises.specs.Accessing.{IsStepRunAt}
+use Rattle.sja_threads.specs.Inside.StepRuns.{DoesStep, EndsWait}
 use Rattle.sja_threads.proofs.Driver.OneStep.{Entered}
 use Rattle.sja_threads.proofs.Driver.Settings.{registers_with, has_those}
 use Rattle.sja_threads.proofs.Driver.Steps.{does_none, does_entered}
@@ -38,19 +38,19 @@ of_closed least found answer (inr shut) = inr (shut.0, shut.1, refl)
 module _ {N E : Type 0} {o : Orders N} (e : Ends E) (was : DriverThread N E o) (d : LoggedDriver) (found : ℕ) where
   waited : (least : ℕ) (answer : StepAnswer) (active : Bool) → EndsWait least (answer, found) →
       kept_of d ≡ kept_of was.driver → by_bytes was.set.version ≡ true →
-      IsAccessAt was.set.version was.set active (kept_of was.driver)
-      (record { step = At least; answer = answer; bits = found; deeds = [] }) (kept_of d)
+      IsStepRunAt was.set.version was.set active (kept_of was.driver)
+      (record { step = At least; answer = answer; bits = found; acts = [] }) (kept_of d)
   waited least answer active ends kept bytes = record {
     at = closed_with was.set;
     seen = nothing_seen;
     has = has_closed was.set;
     is = record {
-      steps = subst (λ (k : Bool). [] ≡ deed_steps k (closed_with was.set) active (At least)) (sym bytes) refl;
+      steps = subst (λ (k : Bool). [] ≡ act_steps k (closed_with was.set) active (At least)) (sym bytes) refl;
       answer = subst (λ (k : Bool). Answers k (closed_with was.set) nothing_seen (kept_of was.driver)
           found (At least) [] answer) (sym bytes) (of_closed least found answer ends);
       left = kept;
     };
-    read = λ other x same deeds. absurd (let two : At least ≡ Read other = same in cc);
+    read = λ other x same acts. absurd (let two : At least ≡ Read other = same in cc);
   }
 
   pub wait_done : (least : ℕ) (answer : StepAnswer) → EndsWait least (answer, found) → ((x : E) → e.same x x) →
@@ -58,7 +58,7 @@ module _ {N E : Type 0} {o : Orders N} (e : Ends E) (was : DriverThread N E o) (
       DoesStep e was (record was { driver = d; found = found }) (At least)
   unfolding does_none does_entered
   wait_done least answer ends r entered bytes = record {
-    access = record { step = At least; answer = answer; bits = found; deeds = [] };
+    step_run = record { step = At least; answer = answer; bits = found; acts = [] };
     step_is = refl;
     does = does_entered e was was d found (kept_of was.driver) [] (does_none e r was) entered.0 entered.2;
     few = omega arith;

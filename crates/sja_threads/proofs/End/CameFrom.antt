@@ -3,17 +3,17 @@ use Rattle.std.proofs.Common.{◌≡◌, ◌∷◌, ℕ, ◌<◌, List, length, 
 use Rattle.std.specs.Prelude.{slice_index_or}
 use Rattle.rtrb.specs.Ring.{sent}
 use Rattle.lemmas.proofs.Lists.{some_of}
-use Rattle.sja_link.specs.declared.up.Up.{Up}
+use Rattle.sja_journal.specs.declared.up.Up.{Up}
 use Rattle.sja_rings.specs.declared.node_bus.NodeBus.{NodeBus}
 use Rattle.sja_rings.specs.declared.node_driver.NodeDriver.{NodeDriver}
 use Rattle.sja_rings.specs.declared.ring_bus.RingBus.{RingBus}
 use Rattle.sja_rings.specs.declared.ring_driver.RingDriver.{RingDriver}
 use Rattle.sja_rings.specs.NodeRings.{rings_of_bus, rings_of_driver}
 use Rattle.sja_plan.specs.Plan.{PlanValue}
-use Rattle.sja_log.proofs.NodeLog.Logging.{next_of}
-use Rattle.sja_wire.specs.declared.bus_fault.BusFault.{BusFault}
+use Rattle.sja_promises.proofs.NodeLog.Logging.{next_of}
+use Rattle.sja_journal.specs.declared.bus_fault.BusFault.{BusFault}
 use Rattle.sja_threads.specs.declared.handover.Handover.{Handover}
-use Rattle.sja_threads.specs.Stopping.{CameFirst, IsUnsettledBy, StopsWith}
+use Rattle.sja_thread_promises.specs.Stopping.{CameFirst, IsUnsettledBy, StopsWith}
 use Rattle.sja_threads.specs.Inside.EndsJoined.{IsStopped}
 use Rattle.sja_threads.specs.Inside.Settling.{AllCameFrom, LeavesUnsettled, SomeUnsettled, all_ends}
 use Rattle.sja_threads.proofs.End.GoneThrough.{next_both}

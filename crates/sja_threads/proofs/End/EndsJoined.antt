@@ -6,8 +6,8 @@ use Rattle.std.proofs.lemmas.Slice.Zip.{AllZip-long}
 use Rattle.rtrb.specs.Ring.{sent}
 use Rattle.lemmas.specs.Related.{EachRelated}
 use Rattle.lemmas.proofs.Lists.{some_of}
-use Rattle.sja_link.specs.Lists.{Lists}
-use Rattle.sja_link.specs.Accounts.{account}
+use Rattle.sja_journal.specs.Lists.{Lists}
+use Rattle.sja_journal.specs.Accounts.{account}
 use Rattle.sja_rings.specs.declared.node_bus.NodeBus.{NodeBus}
 use Rattle.sja_rings.specs.declared.node_driver.NodeDriver.{NodeDriver}
 use Rattle.sja_rings.specs.declared.ring_driver.RingDriver.{RingDriver}
@@ -16,14 +16,14 @@ use Rattle.sja_rings.specs.NodeRings.{rings_of_driver, DriverListsAt, SameNodeBu
 use Rattle.sja_rings.proofs.OnePair.{still_one_node}
 use Rattle.sja_rings.proofs.RingsOfNode.{here}
 use Rattle.sja_plan.specs.Plan.{PlanValue}
-use Rattle.sja_driver.specs.Deeds.{given_in, deeds_of}
-use Rattle.sja_wire.specs.declared.bus_fault.BusFault.{BusFault}
+use Rattle.sja_driver.specs.TypedActs.{given_in, acts_of}
+use Rattle.sja_journal.specs.declared.bus_fault.BusFault.{BusFault}
 use Rattle.sja_threads.specs.declared.bus_thread.BusThread.{BusThread}
 use Rattle.sja_threads.specs.declared.joined_run.JoinedRun.{JoinedRun}
 use Rattle.sja_threads.specs.declared.thread_start.ThreadStart.{ThreadStart}
 use Rattle.sja_threads.specs.declared.handover.Handover.{Handover}
-use Rattle.sja_threads.specs.Accessing.{Work, deeds_done, work_at}
-use Rattle.sja_threads.specs.Stopping.{StopsOn, deed_counts}
+use Rattle.sja_thread_promises.specs.Accessing.{Work, acts_done, work_at}
+use Rattle.sja_thread_promises.specs.Stopping.{StopsOn, act_counts}
 use Rattle.sja_threads.specs.Inside.EndsJoined.{AreJoined, AreGivenBy, IsStopped}
 use Rattle.sja_threads.specs.Inside.JoinedRun.{IsEnding}
 use Rattle.sja_threads.specs.Inside.Making.{IsMade, AreMade}
@@ -73,21 +73,21 @@ module _ {G : Type 0} (Lets : G → ℕ → ℕ → ℕ → Type 0) (plan : Plan
       let second = as_many (slice_index_or was.links.items node b) p.start.end ends.one in
       let third = AllZip-long SameDriver (rings_of_driver p.start.end) rings p.serves.same.1 in
       let kept = p.serves.worked.holds [] (untouched [] p.start.end ends.driver_lists) in
-      let given = given_in (deeds_of (deeds_done p.serves.worked.work) (suc a)) in
+      let given = given_in (acts_of (acts_done p.serves.worked.work) (suc a)) in
       let lists : Lists = account [] (suc a) (record { got = kept.got a; given = given }) in
       let there : DriverListsAt (Some (slice_index_or rings a d)) lists =
       subst (λ (o : Option RingDriver). DriverListsAt o lists)
       (here rings a (suc a) d refl (omega (arith, less, first, second, third))) (kept.kept a) in
       subst (λ (x : Handover NodeDriver). sent (slice_index_or (rings_of_driver x.end) a d).up
-      ≡ given_in (deeds_of (deeds_done (work_at done.works node)) (suc a))) (sym (p.worked_is w))
-      (subst (λ (x : Work). sent (slice_index_or rings a d).up ≡ given_in (deeds_of (deeds_done x) (suc a)))
+      ≡ given_in (acts_of (acts_done (work_at done.works node)) (suc a))) (sym (p.worked_is w))
+      (subst (λ (x : Work). sent (slice_index_or rings a d).up ≡ given_in (acts_of (acts_done x) (suc a)))
       (sym p.work_is) there.1)
 
 -- a bus that stopped beside its drivers' threads, once these are joined
 pub stopped_beside : {G : Type 0} (Lets : G → ℕ → ℕ → ℕ → Type 0) (plan : PlanValue) (starts : List (ThreadStart G))
     (ws : List (Handover NodeDriver)) (was now : BusThread) (f : BusFault) → length starts ≡ length plan.nodes →
     length was.links.items ≡ length plan.nodes → AreMade plan (length plan.nodes) starts was.links.items →
-    was.bus.steps ≡ deed_counts plan → Stops plan was now f → EachRelated (Serves Lets plan) starts ws →
+    was.bus.steps ≡ act_counts plan → Stops plan was now f → EachRelated (Serves Lets plan) starts ws →
     IsStopped plan now.links.items ws f
 stopped_beside {G} Lets plan starts ws was now f many long made room stops served =
     let done = all_done Lets plan starts ws served in

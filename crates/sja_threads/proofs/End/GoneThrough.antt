@@ -5,7 +5,7 @@ use Rattle.std.specs.Prelude.{slice_index_or}
 use Rattle.std.proofs.lemmas.Bool.{cases_eq}
 use Rattle.std.proofs.lemmas.List.{length-drop}
 use Rattle.lemmas.specs.Related.{EachRelated}
-use Rattle.sja_log.proofs.NodeLog.Logging.{next_of}
+use Rattle.sja_promises.proofs.NodeLog.Logging.{next_of}
 
 -- where some items are left there is one
 pub some_left : {A : Type 0} (left : List A) → (length left ≡ 0 → ⊥) → 1 ≤ length left

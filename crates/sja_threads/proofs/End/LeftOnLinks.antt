@@ -5,7 +5,7 @@ use Rattle.std.specs.Prelude.{slice_index_or}
 use Rattle.std.proofs.lemmas.Bool.{cases_eq, cases_lt}
 use Rattle.std.proofs.lemmas.List.{length_push, get_or_append_left, get_or_push}
 use Rattle.lemmas.proofs.Lists.{some_of}
-use Rattle.sja_link.specs.declared.down.Down.{Down}
+use Rattle.sja_journal.specs.declared.down.Down.{Down}
 use Rattle.sja_link.specs.declared.older_down.OlderDown.{OlderDown}
 use Rattle.sja_link.specs.Deques.{left_on}
 use Rattle.sja_link.proofs.QueuedLinks.Left.{left_both, left_here, left_else}
@@ -15,7 +15,7 @@ use Rattle.sja_rings.specs.declared.ring_bus.RingBus.{RingBus}
 use Rattle.sja_rings.specs.declared.ring_driver.RingDriver.{RingDriver}
 use Rattle.sja_rings.specs.NodeRings.{rings_of_bus, rings_of_driver, ring_at, BusListsAt, DriverListsAt, OneNode}
 use Rattle.sja_rings.proofs.RingsOfNode.{here, nowhere}
-use Rattle.sja_log.specs.LeftDown.{on_link}
+use Rattle.sja_promises.specs.LeftDown.{on_link}
 use Rattle.sja_threads.specs.Inside.Settling.{IsLeftBy, IsLeftOn, IsLeftOnAll, AreLeftOn}
 use Rattle.sja_threads.proofs.End.LinksOver.{as_many, some_ring}
 

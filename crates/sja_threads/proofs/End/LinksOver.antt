@@ -9,19 +9,19 @@ use Rattle.sja_rings.specs.declared.node_driver.NodeDriver.{NodeDriver}
 use Rattle.sja_rings.specs.declared.ring_driver.RingDriver.{RingDriver}
 use Rattle.sja_rings.specs.Ends.{OneLink}
 use Rattle.sja_rings.specs.NodeRings.{rings_of_bus, rings_of_driver, OneNode}
-use Rattle.sja_wire.specs.Buses.{BusValue}
-use Rattle.sja_wire.specs.Keeping.{KeepsRecord}
+use Rattle.sja_bus_rules.specs.Buses.{BusValue}
+use Rattle.sja_bus_rules.specs.WholeRecords.{KeepsRecord}
 use Rattle.sja_plan.specs.Plan.{PlanValue, IsInLimits}
 use Rattle.sja_plan.proofs.PlanLimits.ByVersion.{bits_most}
 use Rattle.sja_driver.specs.declared.logged_driver.LoggedDriver.{LoggedDriver}
-use Rattle.sja_driver.specs.Deeds.{Deed}
+use Rattle.sja_driver.specs.TypedActs.{TypedAct}
 use Rattle.sja_driver.specs.LoggedDrivers.{IsLawful, log_of}
 use Rattle.sja_driver.specs.Logs.{KeepsLog}
 use Rattle.sja_threads.specs.declared.handover.Handover.{Handover}
 use Rattle.sja_threads.specs.Inside.Ended.{IsOver}
 use Rattle.sja_threads.specs.Inside.EndsJoined.{AreJoined}
 use Rattle.sja_threads.specs.Inside.Settling.{all_drivers, all_ends}
-use Rattle.sja_threads.proofs.Start.FewDeeds.{few_deeds}
+use Rattle.sja_threads.proofs.Start.FewActs.{few_acts}
 
 -- both ends of a node's links have as many of them, so there is one of the driver's where there is one of the bus's
 pub as_many : (b : NodeBus) (d : NodeDriver) → OneNode b d → length (rings_of_driver d) ≡ length (rings_of_bus b)
@@ -53,7 +53,7 @@ module _ (nodes : ℕ) (links : List NodeBus) (workeds : List (Handover NodeDriv
         (h.pairs node b w few)
 
 module _ (plan : PlanValue) (bus : BusValue) (links : List NodeBus) (workeds : List (Handover NodeDriver))
-    (deeds : List (List Deed)) (h : IsOver plan bus links workeds deeds) where
+    (acts : List (List TypedAct)) (h : IsOver plan bus links workeds acts) where
   pub joined_over : AreJoined (length plan.nodes) links workeds
   joined_over = record {
     links_count = h.links_count;
@@ -65,9 +65,9 @@ module _ (plan : PlanValue) (bus : BusValue) (links : List NodeBus) (workeds : L
   pub record_kept : IsInLimits plan → KeepsRecord (bus.run + bus.left) bus.steps (length bus.journals)
   record_kept limits node less =
       let few : node < length plan.nodes = let count = h.journals_count in omega (arith, less, count) in
-      let steps = ap (λ (l : List ℕ). slice_index_or l node 0) h.steps in let deeds = few_deeds plan limits node few in
+      let steps = ap (λ (l : List ℕ). slice_index_or l node 0) h.steps in let acts = few_acts plan limits node few in
       let bits = h.all_bits in let own = limits.bits.1 in let all = bits_most plan.version in
-      omega (arith, steps, deeds, bits, own, all)
+      omega (arith, steps, acts, bits, own, all)
 
   -- what holds of each driver that was handed back
   each_driver : (P : LoggedDriver → Type 0) →

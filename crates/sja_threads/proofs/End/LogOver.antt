@@ -3,32 +3,32 @@ use Rattle.std.proofs.Common.{◌≡◌, ℕ, ◌<◌, List, length, map, sym, a
 use Rattle.std.specs.Prelude.{slice_index_or}
 use Rattle.std.proofs.lemmas.List.{get_or-map, length-map}
 use Rattle.lemmas.proofs.Lists.{some_of}
-use Rattle.sja_link.specs.declared.entry.Entry.{Entry}
-use Rattle.sja_link.specs.declared.down.Down.{Down}
+use Rattle.sja_journal.specs.declared.entry.Entry.{Entry}
+use Rattle.sja_journal.specs.declared.down.Down.{Down}
 use Rattle.sja_link.specs.declared.older_down.OlderDown.{OlderDown}
-use Rattle.sja_link.specs.Verdicts.{IsLawful as IsLawfulJournal}
+use Rattle.sja_journal.specs.Verdicts.{IsLawful as IsLawfulJournal}
 use Rattle.sja_rings.specs.declared.node_bus.NodeBus.{NodeBus}
 use Rattle.sja_rings.specs.declared.node_driver.NodeDriver.{NodeDriver}
-use Rattle.sja_wire.specs.declared.node_log.NodeLog.{NodeLog}
-use Rattle.sja_wire.specs.Buses.{BusValue}
-use Rattle.sja_wire.specs.Lawful.{CountersAre, IsBusRun}
+use Rattle.sja_bus_rules.specs.declared.node_log.NodeLog.{NodeLog}
+use Rattle.sja_bus_rules.specs.Buses.{BusValue}
+use Rattle.sja_bus_rules.specs.Lawful.{CountersAre, IsBusRun}
 use Rattle.sja_link.specs.Orderly.{AreOrderly}
-use Rattle.sja_wire.specs.Wire.{journal_at}
+use Rattle.sja_bus_rules.specs.Wire.{journal_at}
 use Rattle.sja_regs.specs.DriverSettings.{settings_in}
 use Rattle.sja_regs.specs.Registers.{at_power_on}
 use Rattle.sja_plan.specs.Plan.{PlanValue}
 use Rattle.sja_driver.specs.declared.logged_driver.LoggedDriver.{LoggedDriver}
-use Rattle.sja_driver.specs.Deeds.{Deed, deeds_at}
+use Rattle.sja_driver.specs.TypedActs.{TypedAct, acts_at}
 use Rattle.sja_driver.specs.LoggedDrivers.{log_of}
 use Rattle.sja_driver.specs.Logs.{done_in}
 use Rattle.sja_log.specs.declared.end.End.{End}
 use Rattle.sja_log.specs.Log.{NodeValue, RunValue}
-use Rattle.sja_log.specs.Runs.{IsTrace, IsRun}
-use Rattle.sja_log.specs.Settling.{AreSettled}
-use Rattle.sja_log.specs.Finishing.{IsNodeEnd, AreNodeEnds}
-use Rattle.sja_log.specs.LeftDown.{left_of}
-use Rattle.sja_log.proofs.NodeLog.NodeEnds.{AreEnds, trace_of, settled_of, nodes_count, some_log, some_driver}
-use Rattle.sja_log.proofs.NodeLog.NodeEnds.{node_end, journal_is, journals_in_log, run_of_ends}
+use Rattle.sja_promises.specs.Runs.{IsTrace, IsRun}
+use Rattle.sja_promises.specs.Settling.{AreSettled}
+use Rattle.sja_promises.specs.Finishing.{IsNodeEnd, AreNodeEnds}
+use Rattle.sja_promises.specs.LeftDown.{left_of}
+use Rattle.sja_promises.proofs.NodeLog.NodeEnds.{AreEnds, trace_of, settled_of, nodes_count, some_log, some_driver}
+use Rattle.sja_promises.proofs.NodeLog.NodeEnds.{node_end, journal_is, journals_in_log, run_of_ends}
 use Rattle.sja_threads.specs.declared.handover.Handover.{Handover}
 use Rattle.sja_threads.specs.Inside.Ended.{IsOverAt, IsOver}
 use Rattle.sja_threads.specs.Inside.Settling.{all_drivers, all_ends, IsLeftOnAll, AreLeftOn, IsSettledLog}
@@ -52,8 +52,8 @@ pub record AreLogParts (plan : PlanValue) (bus : BusValue) (links : List NodeBus
 
 module _ (plan : PlanValue) (bus : BusValue) (links : List NodeBus) (workeds : List (Handover NodeDriver)) (end : End)
     (log : RunValue) (logs : List NodeLog) (lists : List (List OlderDown))
-    (m : AreLogParts plan bus links workeds end log logs lists) (deeds : List (List Deed))
-    (h : IsOver plan bus links workeds deeds) where
+    (m : AreLogParts plan bus links workeds end log logs lists) (acts : List (List TypedAct))
+    (h : IsOver plan bus links workeds acts) where
   -- what lies on the links, by node and activation
   abbrev down : ℕ → ℕ → List Down
   down k a = left_of lists k a
@@ -87,7 +87,7 @@ module _ (plan : PlanValue) (bus : BusValue) (links : List NodeBus) (workeds : L
     abbrev end_of_bus : NodeBus
     end_of_bus = slice_index_or links k some_bus
 
-    over : IsOverAt (settings_in (at_power_on plan.version)) k (journal_at bus.journals k) (deeds_at deeds k) handed
+    over : IsOverAt (settings_in (at_power_on plan.version)) k (journal_at bus.journals k) (acts_at acts k) handed
         end_of_bus
     over = h.nodes k some_bus some in_plan
 
@@ -95,7 +95,7 @@ module _ (plan : PlanValue) (bus : BusValue) (links : List NodeBus) (workeds : L
     left_there =
         let i = in_plan in let c = h.links_count in
         subst (λ (d : NodeDriver). IsLeftOnAll end_of_bus d (down k))
-        (end_at (length plan.nodes) links workeds (joined_over plan bus links workeds deeds h) k some handed.end
+        (end_at (length plan.nodes) links workeds (joined_over plan bus links workeds acts h) k some handed.end
         in_plan) (m.left.each k some_bus handed.end (omega (arith, i, c)))
 
     driver_is : (d : LoggedDriver) → slice_index_or (all_drivers workeds) k d ≡ handed.driver
@@ -119,16 +119,16 @@ module _ (plan : PlanValue) (bus : BusValue) (links : List NodeBus) (workeds : L
     same : there.journal ≡ journal
     same = journal_is plan log logs bus.journals (all_drivers workeds) down are k n less
 
-    trace_there : IsTrace plan.version there (deeds_at deeds k)
-    trace_there = trace_of journal (deeds_at deeds k) handed.driver (down k) _ there end_there same plan.version
+    trace_there : IsTrace plan.version there (acts_at acts k)
+    trace_there = trace_of journal (acts_at acts k) handed.driver (down k) _ there end_there same plan.version
         over.traces
-        (given_all (settings_in (at_power_on plan.version)) k journal (deeds_at deeds k) handed end_of_bus over (down k)
+        (given_all (settings_in (at_power_on plan.version)) k journal (acts_at acts k) handed end_of_bus over (down k)
         left_there)
 
     settled_there : AreSettled there
-    settled_there = settled_of journal (deeds_at deeds k) handed.driver (down k) _ there end_there same
+    settled_there = settled_of journal (acts_at acts k) handed.driver (down k) _ there end_there same
         (λ a less.
-        settled_all (settings_in (at_power_on plan.version)) k journal (deeds_at deeds k) handed end_of_bus over
+        settled_all (settings_in (at_power_on plan.version)) k journal (acts_at acts k) handed end_of_bus over
         (down k) left_there a)
 
     bus_there : IsBusRun bus.script bus.run bus.journals
@@ -150,9 +150,9 @@ module _ (plan : PlanValue) (bus : BusValue) (links : List NodeBus) (workeds : L
         (sym (get_or-map (λ (x : Handover NodeDriver). x.driver) workeds k some handed.driver in_workeds)
         ∙ get_or-map (λ (x : Handover NodeDriver). x.driver) workeds k w handed.driver in_workeds)
 
-  pub run_over : IsRun plan log deeds
+  pub run_over : IsRun plan log acts
   run_over =
-      run_of_ends plan log logs bus.journals (all_drivers workeds) down are deeds bus.script bus.run m.version
+      run_of_ends plan log logs bus.journals (all_drivers workeds) down are acts bus.script bus.run m.version
       h.script m.bits m.lawful trace_there settled_there
 
   pub log_over : IsSettledLog bus workeds end log
@@ -161,6 +161,6 @@ module _ (plan : PlanValue) (bus : BusValue) (links : List NodeBus) (workeds : L
     ends = m.ends;
     journals = journals_in_log plan log logs bus.journals (all_drivers workeds) down are;
     done = λ node n w less. done_there node n less w;
-    linked = λ node n less. linked_by (deeds_at deeds node) (slice_index_or log.nodes node n)
+    linked = λ node n less. linked_by (acts_at acts node) (slice_index_or log.nodes node n)
         (trace_there node n less) (lawful_there node n less) (orderly_there node n less);
   }

@@ -5,7 +5,7 @@ use Rattle.std.specs.Prelude.{Some, slice_index_or}
 use Rattle.std.proofs.lemmas.List.{length-map}
 use Rattle.std.proofs.lemmas.List.Elements.{AllZip-get_or}
 use Rattle.std.proofs.lemmas.Slice.Zip.{AllZip-long}
-use Rattle.sja_link.specs.declared.entry.Entry.{Entry}
+use Rattle.sja_journal.specs.declared.entry.Entry.{Entry}
 use Rattle.lemmas.specs.Related.{EachRelated}
 use Rattle.lemmas.proofs.Lists.{some_of}
 use Rattle.sja_rings.specs.declared.node_bus.NodeBus.{NodeBus}
@@ -17,14 +17,14 @@ use Rattle.sja_regs.specs.Registers.{at_power_on}
 use Rattle.sja_plan.specs.Plan.{PlanValue, steps_at}
 use Rattle.sja_driver.specs.LoggedDrivers.{log_of}
 use Rattle.sja_driver.specs.Logs.{done_in}
-use Rattle.sja_driver.specs.Deeds.{Deed, deeds_at}
-use Rattle.sja_wire.specs.Wire.{journal_at}
+use Rattle.sja_driver.specs.TypedActs.{TypedAct, acts_at}
+use Rattle.sja_bus_rules.specs.Wire.{journal_at}
 use Rattle.sja_threads.specs.declared.bus_thread.BusThread.{BusThread}
 use Rattle.sja_threads.specs.declared.thread_start.ThreadStart.{ThreadStart}
 use Rattle.sja_threads.specs.declared.handover.Handover.{Handover}
-use Rattle.sja_threads.specs.Accessing.{Work, Follows, deeds_done, work_at}
-use Rattle.sja_threads.specs.Asking.{AtNode}
-use Rattle.sja_threads.specs.Stopping.{deed_counts}
+use Rattle.sja_thread_promises.specs.Accessing.{Work, Follows, acts_done, work_at}
+use Rattle.sja_thread_promises.specs.Asking.{AtNode}
+use Rattle.sja_thread_promises.specs.Stopping.{act_counts}
 use Rattle.sja_threads.specs.Inside.Ended.{IsOver, IsOverAt}
 use Rattle.sja_threads.specs.Inside.Making.{IsMade, AreMade}
 use Rattle.sja_threads.specs.Inside.Names.{IsNamed, IsOrderOf}
@@ -83,13 +83,13 @@ all_done {G} Lets plan (s ∷ starts) (w ∷ ws) p =
           work_is = r.work_is;
         }
 
--- the deeds of a node are those of what it did
-pub deeds_of_work : (works : List Work) (node : ℕ) →
-    deeds_at (map (λ (w : Work). deeds_done w) works) node ≡ deeds_done (work_at works node)
-deeds_of_work [] zero = refl
-deeds_of_work [] (suc node) = refl
-deeds_of_work (w ∷ works) zero = refl
-deeds_of_work (w ∷ works) (suc node) = deeds_of_work works node
+-- the acts of a node are those of what it did
+pub acts_of_work : (works : List Work) (node : ℕ) →
+    acts_at (map (λ (w : Work). acts_done w) works) node ≡ acts_done (work_at works node)
+acts_of_work [] zero = refl
+acts_of_work [] (suc node) = refl
+acts_of_work (w ∷ works) zero = refl
+acts_of_work (w ∷ works) (suc node) = acts_of_work works node
 
 module _ {G : Type 0} (Lets : G → ℕ → ℕ → ℕ → Type 0) (plan : PlanValue) (starts : List (ThreadStart G))
     (ws : List (Handover NodeDriver)) (was now : BusThread) (many : length starts ≡ length plan.nodes)
@@ -97,11 +97,11 @@ module _ {G : Type 0} (Lets : G → ℕ → ℕ → ℕ → Type 0) (plan : Plan
     (made : AreMade plan (length plan.nodes) starts was.links.items) where
   -- one node
   over_at : GoesOn plan was now → (node : ℕ) (b : NodeBus) (s : ThreadStart G) (w : Handover NodeDriver)
-      (deeds : List Deed) → node < length plan.nodes → IsMade plan node s (slice_index_or was.links.items node b) →
-      (v : Serves Lets plan s w) → deeds ≡ deeds_done v.worked.work →
-      IsOverAt (settings_in (at_power_on plan.version)) node (journal_at now.bus.journals node) deeds w
+      (acts : List TypedAct) → node < length plan.nodes → IsMade plan node s (slice_index_or was.links.items node b) →
+      (v : Serves Lets plan s w) → acts ≡ acts_done v.worked.work →
+      IsOverAt (settings_in (at_power_on plan.version)) node (journal_at now.bus.journals node) acts w
       (slice_index_or now.links.items node b)
-  over_at on node b s w deeds few m v is = record {
+  over_at on node b s w acts few m v is = record {
     own = v.worked.own ∙ m.own;
     lawful = v.worked.lawful;
     keeps = v.keeps;
@@ -131,9 +131,9 @@ module _ {G : Type 0} (Lets : G → ℕ → ℕ → ℕ → Type 0) (plan : Plan
       (made node p.start b few)
 
   -- all of them
-  pub is_over : GoesOn plan was now → was.bus.steps ≡ deed_counts plan → EachRelated (Serves Lets plan) starts ws →
+  pub is_over : GoesOn plan was now → was.bus.steps ≡ act_counts plan → EachRelated (Serves Lets plan) starts ws →
       (done : Done Lets plan starts ws) →
-      IsOver plan now.bus now.links.items ws (map (λ (w : Work). deeds_done w) done.works)
+      IsOver plan now.bus now.links.items ws (map (λ (w : Work). acts_done w) done.works)
   is_over on room served done = record {
     right = on.way.right;
     script = on.way.script;
@@ -142,14 +142,14 @@ module _ {G : Type 0} (Lets : G → ℕ → ℕ → ℕ → Type 0) (plan : Plan
     journals_count = on.way.journals;
     links_count = on.way.ends.count;
     workeds_count = AllZip-long (Serves Lets plan) starts ws served ∙ many;
-    deeds_count = length-map done.works (λ (w : Work). deeds_done w) ∙ done.count ∙ many;
+    acts_count = length-map done.works (λ (w : Work). acts_done w) ∙ done.count ∙ many;
     nodes = λ node b w few.
         let p = place done node few in
-        let deeds = deeds_at (map (λ (x : Work). deeds_done x) done.works) node in
+        let acts = acts_at (map (λ (x : Work). acts_done x) done.works) node in
         subst (λ (x : Handover NodeDriver). IsOverAt (settings_in (at_power_on plan.version)) node
-        (journal_at now.bus.journals node) deeds x (slice_index_or now.links.items node b)) (sym (p.worked_is w))
-        (over_at on node b p.start p.worked deeds few (own done node b few) p.serves
-        (deeds_of_work done.works node ∙ ap (λ (x : Work). deeds_done x) p.work_is));
+        (journal_at now.bus.journals node) acts x (slice_index_or now.links.items node b)) (sym (p.worked_is w))
+        (over_at on node b p.start p.worked acts few (own done node b few) p.serves
+        (acts_of_work done.works node ∙ ap (λ (x : Work). acts_done x) p.work_is));
   }
 
   -- and each did what it did of its script, as its gate let it
@@ -180,7 +180,7 @@ module _ {G : Type 0} (Lets : G → ℕ → ℕ → ℕ → Type 0) (plan : Plan
         );
       }))
 
-  -- and has its node's list of deeds
+  -- and has its node's list of acts
   pub all_named : (order_version : ℕ) (names : List ℕ) → AreOrdered order_version names plan.version starts →
       (done : Done Lets plan starts ws) (node : ℕ) (w : Handover NodeDriver) → node < length plan.nodes →
       IsNamed names node (slice_index_or ws node w).done.name

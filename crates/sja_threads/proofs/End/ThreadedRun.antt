@@ -2,7 +2,7 @@
 use Rattle.std.proofs.Common.{◌≡◌, ℕ, ◌<◌, Bool, true, false, List, length, map, sym, ap, ◌∙◌, subst}
 use Rattle.std.proofs.Common.{arith, inl, inr}
 use Rattle.std.specs.Prelude.{Result, Ok, Err, IfOk, slice_index_or}
-use Rattle.sja_link.specs.declared.entry.Entry.{Entry}
+use Rattle.sja_journal.specs.declared.entry.Entry.{Entry}
 use Rattle.lemmas.specs.Related.{EachRelated}
 use Rattle.lemmas.proofs.Lists.{some_of}
 use Rattle.sja_rings.specs.declared.node_bus.NodeBus.{NodeBus}
@@ -11,26 +11,26 @@ use Rattle.sja_rings.specs.NodeRings.{SameNodeBus}
 use Rattle.sja_regs.specs.DriverSettings.{SettingsValue, settings_in}
 use Rattle.sja_regs.specs.Registers.{at_power_on}
 use Rattle.sja_plan.specs.Plan.{PlanValue, steps_at}
-use Rattle.sja_script.specs.declared.done.Done.{Done as DoneStep}
-use Rattle.sja_driver.specs.Deeds.{Deed}
+use Rattle.sja_steps.specs.declared.step_record.StepRecord.{StepRecord as DoneStep}
+use Rattle.sja_driver.specs.TypedActs.{TypedAct}
 use Rattle.sja_log.specs.declared.end.End.{End}
-use Rattle.sja_log.specs.Headline.{AreAccounts}
+use Rattle.sja_promises.specs.Headline.{AreAccounts}
 use Rattle.sja_log.specs.Log.{RunValue, journals_in}
-use Rattle.sja_log.specs.Runs.{IsRun}
-use Rattle.sja_wire.specs.Wire.{journal_at}
+use Rattle.sja_promises.specs.Runs.{IsRun}
+use Rattle.sja_bus_rules.specs.Wire.{journal_at}
 use Rattle.sja_threads.specs.declared.bus_thread.BusThread.{BusThread}
 use Rattle.sja_threads.specs.declared.joined_run.JoinedRun.{JoinedRun}
 use Rattle.sja_threads.specs.declared.thread_start.ThreadStart.{ThreadStart}
-use Rattle.sja_threads.specs.declared.notice.Notice.{Notice}
+use Rattle.sja_thread_promises.specs.declared.port_update.PortUpdate.{PortUpdate}
 use Rattle.sja_threads.specs.declared.handover.Handover.{Handover}
-use Rattle.sja_threads.specs.Accessing.{Work, deeds_done, work_at}
-use Rattle.sja_threads.specs.Needed.{AllDue, EndsDuly}
-use Rattle.sja_threads.specs.Setting.{LeadToSettings}
-use Rattle.sja_threads.specs.Stopping.{deed_counts}
-use Rattle.sja_threads.specs.declared.pass.Pass.{Pass}
-use Rattle.sja_threads.specs.Asking.{AtNode, IsLet}
-use Rattle.sja_threads.specs.Threads.{AreLetBy, IsThreadedRun}
-use Rattle.sja_threads.specs.Ordering.{IsOrdered, is_spent}
+use Rattle.sja_thread_promises.specs.Accessing.{Work, acts_done, work_at}
+use Rattle.sja_thread_promises.specs.Needed.{AllDue, EndsDuly}
+use Rattle.sja_thread_promises.specs.Setting.{LeadToSettings}
+use Rattle.sja_thread_promises.specs.Stopping.{act_counts}
+use Rattle.sja_thread_promises.specs.declared.pass.Pass.{Pass}
+use Rattle.sja_thread_promises.specs.Asking.{AtNode, IsLet}
+use Rattle.sja_thread_promises.specs.Threads.{AreLetBy, IsThreadedRun}
+use Rattle.sja_thread_promises.specs.Ordering.{IsOrdered, is_spent}
 use Rattle.sja_threads.specs.Inside.Boards.{AreClosed, AreTold, turns_at}
 use Rattle.sja_threads.specs.Inside.EndsInOrder.{AreInOrder}
 use Rattle.sja_threads.specs.Inside.Ended.{IsOver}
@@ -41,7 +41,7 @@ use Rattle.sja_threads.specs.Inside.Rounds.{IsUnderWay, GoesOn, EndsAs}
 use Rattle.sja_threads.specs.Inside.Settling.{IsSettledLog}
 use Rattle.sja_threads.specs.Inside.Started.{Serves}
 use Rattle.sja_threads.proofs.End.EndsJoined.{ends_given, ends_joined}
-use Rattle.sja_threads.proofs.End.RunOver.{all_done, all_followed, deeds_of_work, is_over}
+use Rattle.sja_threads.proofs.End.RunOver.{all_done, all_followed, acts_of_work, is_over}
 use Rattle.sja_threads.proofs.Rounds.GoesOn.{on_twice}
 use Rattle.sja_threads.proofs.Rounds.SameEnds.{sames_trans}
 
@@ -50,7 +50,7 @@ pub ending : {G : Type 0} (Lets : G → ℕ → ℕ → ℕ → Type 0) (plan : 
     (was : BusThread) (bus : BusThread) (ws : List (Handover NodeDriver)) (j : JoinedRun) → j.bus ≡ bus →
     j.workeds.items ≡ ws → length starts ≡ length plan.nodes → length was.links.items ≡ length plan.nodes →
     AreMade plan (length plan.nodes) starts was.links.items → GoesOn plan was bus →
-    was.bus.steps ≡ deed_counts plan → EachRelated (Serves Lets plan) starts ws →
+    was.bus.steps ≡ act_counts plan → EachRelated (Serves Lets plan) starts ws →
     IsEnding (AtNode Lets (map (λ (s : ThreadStart G). s.gate) starts)) plan j
 ending {G} Lets plan starts was bus ws j there here many long made on room served =
     let done = all_done Lets plan starts ws served in record {
@@ -59,7 +59,7 @@ ending {G} Lets plan starts was bus ws j there here many long made on room serve
       works = done.works;
       over = λ t more.
           subst (λ (l : List (Handover NodeDriver)). IsOver plan t.bus t.links.items l
-          (map (λ (w : Work). deeds_done w) done.works)) (sym here)
+          (map (λ (w : Work). acts_done w) done.works)) (sym here)
           (is_over Lets plan starts ws was t many long made
           (on_twice plan was bus t on (subst (λ (b : BusThread). GoesOn plan b t) there more)) room served done);
       joined = λ links same.
@@ -81,19 +81,19 @@ ending {G} Lets plan starts was bus ws j there here many long made on room serve
 module _ {G : Type 0} (quits : Bool) (answered : G → ℕ → ℕ → ℕ → Pass → Type 0) (gates : List G)
     (plan : PlanValue) (j : JoinedRun) (t : BusThread) (end : End) (log : RunValue)
     (ending : IsEnding (AtNode (IsLet quits answered) gates) plan j) (ends : EndsAs plan j.bus t end)
-    (runs : (deeds : List (List Deed)) → IsOver plan t.bus t.links.items j.workeds.items deeds → IsRun plan log deeds)
-    (is : IsSettledLog t.bus j.workeds.items end log) (turns : List (List Notice))
+    (runs : (acts : List (List TypedAct)) → IsOver plan t.bus t.links.items j.workeds.items acts → IsRun plan log acts)
+    (is : IsSettledLog t.bus j.workeds.items end log) (turns : List (List PortUpdate))
     (told : AreTold plan t.bus.journals turns)
     (closed : AreClosed (length plan.nodes) (is_spent end) turns)
     (in_order : AreInOrder plan.version (length plan.nodes) turns j.workeds.items) where
-  abbrev deeds : List (List Deed)
-  deeds = map (λ (w : Work). deeds_done w) ending.works
+  abbrev acts : List (List TypedAct)
+  acts = map (λ (w : Work). acts_done w) ending.works
 
-  over : IsOver plan t.bus t.links.items j.workeds.items deeds
+  over : IsOver plan t.bus t.links.items j.workeds.items acts
   over = ending.over t ends.on
 
-  run : IsRun plan log deeds
-  run = runs deeds over
+  run : IsRun plan log acts
+  run = runs acts over
 
   some : (node : ℕ) → node < length plan.nodes → Handover NodeDriver
   some node few = some_of j.workeds.items 0 (let e = over.workeds_count in omega (arith, few, e))
@@ -113,14 +113,14 @@ module _ {G : Type 0} (quits : Bool) (answered : G → ℕ → ℕ → ℕ → P
         let few = in_plan node less in
         (ending.followed node (some node few) few).done ∙ sym (is.done node d (some node few) less);
     sets = λ node few.
-        subst (λ (l : List Deed). (last : SettingsValue)
-        × LeadToSettings (settings_in (at_power_on plan.version)) l last) (deeds_of_work ending.works node)
+        subst (λ (l : List TypedAct). (last : SettingsValue)
+        × LeadToSettings (settings_in (at_power_on plan.version)) l last) (acts_of_work ending.works node)
         (over.nodes node (some_bus node few) (some node few) few).leads;
     ordered = λ node few.
         let w = some node few in let led = in_order node w few in
-        let deeds_there = deeds_done (work_at ending.works node) in
+        let acts_there = acts_done (work_at ending.works node) in
         subst (λ (l : List (List Entry)). IsOrdered plan.version plan.bits log.end (steps_at plan node)
-        (journal_at l node) deeds_there) (sym is.journals)
+        (journal_at l node) acts_there) (sym is.journals)
         (record {
           told = turns_at turns node;
           closed = closed node few ∙ sym (ap is_spent is.ends);

@@ -12,9 +12,9 @@ use Rattle.sja_plan.specs.Plan.{PlanValue, steps_at}
 use Rattle.sja_log.specs.declared.run_fault.RunFault.{RunFault}
 use Rattle.sja_log.specs.declared.run_fault.RunFault.TheVariants.{Memory, Unsettled}
 use Rattle.sja_threads.specs.declared.handover.Handover.{Handover}
-use Rattle.sja_threads.specs.Accessing.{Work, Follows, work_at}
-use Rattle.sja_threads.specs.Gathering.{AreBusEnds}
-use Rattle.sja_threads.specs.Stopping.{IsFaultOf, IsUnsettled}
+use Rattle.sja_thread_promises.specs.Accessing.{Work, Follows, work_at}
+use Rattle.sja_thread_promises.specs.Gathering.{AreBusEnds}
+use Rattle.sja_thread_promises.specs.Stopping.{IsFaultOf, IsUnsettled}
 use Rattle.sja_threads.specs.Inside.EndsJoined.{AreJoined, AreGivenBy}
 use Rattle.sja_threads.specs.Inside.Settling.{LeavesUnsettled, SomeUnsettled, all_ends}
 use Rattle.sja_threads.proofs.End.GoneThrough.{related_at}

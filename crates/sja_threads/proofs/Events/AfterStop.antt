@@ -1,15 +1,15 @@
 -- After a stop nothing comes on a link.
 use Rattle.std.proofs.Common.{◌≡◌, ◌≢◌, Bool, List, [], ◌∷◌, ◌++◌, refl, sym, ap, ◌∙◌, subst, append-nil}
-use Rattle.sja_link.specs.declared.down.Down.{Down}
-use Rattle.sja_link.specs.declared.up.Up.TheVariants.{Start as StartUp, Credit, Send as SendUp, Stop as StopUp}
-use Rattle.sja_link.specs.declared.entry.Entry.{Entry}
-use Rattle.sja_link.specs.declared.entry.Entry.TheVariants.{Bit, Up as Item, Abort, Stored, Overrun, Off as OffEntry}
-use Rattle.sja_link.specs.Carried.{put_of, taken_in, taken_of}
+use Rattle.sja_journal.specs.declared.down.Down.{Down}
+use Rattle.sja_journal.specs.declared.up.Up.TheVariants.{Start as StartUp, Credit, Send as SendUp, Stop as StopUp}
+use Rattle.sja_journal.specs.declared.entry.Entry.{Entry}
+use Rattle.sja_journal.specs.declared.entry.Entry.TheVariants.{Bit, Up as Item, Abort, Stored, Overrun, Off as OffEntry}
+use Rattle.sja_journal.specs.Carried.{put_of, taken_in, taken_of}
 use Rattle.lemmas.specs.Gathering.{total}
 use Rattle.lemmas.specs.Picking.{EachAfter}
 use Rattle.sja_link.specs.World.{is_stop}
 use Rattle.sja_link.specs.Orderly.{IsRunning, IsOrderly}
-use Rattle.sja_threads.specs.Linked.{IsLinked}
+use Rattle.sja_thread_promises.specs.Linked.{IsLinked}
 use Rattle.sja_threads.proofs.Events.Comes.{world}
 use Rattle.sja_threads.proofs.Events.Order.{Order, with_quiet, taken_same, next_whole}
 

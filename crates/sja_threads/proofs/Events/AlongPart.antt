@@ -1,19 +1,19 @@
 -- An order of the events of a link, made along an activation's part of a journal: before a stop, or else at the end,
 -- the driver gets all that it gets.
 use Rattle.std.proofs.Common.{◌≡◌, ℕ, true, false, List, [], ◌∷◌, ◌++◌, length, map, refl, ap, ◌∙◌, arith, append-nil}
-use Rattle.sja_link.specs.declared.down.Down.{Down}
-use Rattle.sja_link.specs.declared.up.Up.TheVariants.{Start as StartUp, Credit, Send as SendUp, Stop as StopUp}
-use Rattle.sja_link.specs.declared.entry.Entry.{Entry}
-use Rattle.sja_link.specs.declared.entry.Entry.TheVariants.{Bit, Up as Item, Abort, Stored, Overrun, Off as OffEntry}
-use Rattle.sja_link.specs.Carried.{stored_of, put_of, taken_in, taken_of}
-use Rattle.sja_link.proofs.Ledger.StoredMessages.{AreMessages}
+use Rattle.sja_journal.specs.declared.down.Down.{Down}
+use Rattle.sja_journal.specs.declared.up.Up.TheVariants.{Start as StartUp, Credit, Send as SendUp, Stop as StopUp}
+use Rattle.sja_journal.specs.declared.entry.Entry.{Entry}
+use Rattle.sja_journal.specs.declared.entry.Entry.TheVariants.{Bit, Up as Item, Abort, Stored, Overrun, Off as OffEntry}
+use Rattle.sja_journal.specs.Carried.{stored_of, put_of, taken_in, taken_of}
+use Rattle.sja_journal.proofs.Ledger.StoredMessages.{AreMessages}
 use Rattle.lemmas.specs.Gathering.{gathered, total}
-use Rattle.sja_link.specs.Lists.{messages}
+use Rattle.sja_journal.specs.Lists.{messages}
 use Rattle.lemmas.specs.Picking.{EachAfter}
 use Rattle.sja_link.specs.World.{is_stop, credits_of}
 use Rattle.lemmas.proofs.Gathered.{gathered_push, total_append, total_push}
 use Rattle.sja_link.specs.Orderly.{IsOrderly}
-use Rattle.sja_threads.specs.Linked.{event_in, IsLinked}
+use Rattle.sja_thread_promises.specs.Linked.{event_in, IsLinked}
 use Rattle.sja_threads.proofs.Events.Comes.{comes_first, comes_start, comes_stop, comes_send}
 use Rattle.sja_threads.proofs.Events.Order.{with_taken, next_whole}
 use Rattle.sja_threads.proofs.Events.AfterStop.{Ends, ended, Stopped, none_put, stopped}

@@ -3,20 +3,20 @@
 use Rattle.std.proofs.Common.{◌≡◌, ℕ, List, [], ◌∷◌, ◌++◌, length, map, refl, sym, ap, ap₂, ◌∙◌, subst, arith}
 use Rattle.std.proofs.Common.{append_assoc, append-nil}
 use Rattle.std.proofs.lemmas.List.{length-map, map-append}
-use Rattle.sja_link.specs.declared.down.Down.{Down}
-use Rattle.sja_link.specs.declared.down.Down.TheVariants.{Message}
-use Rattle.sja_link.specs.declared.up.Up.TheVariants.{Credit}
-use Rattle.sja_link.specs.declared.entry.Entry.{Entry}
-use Rattle.sja_link.specs.declared.entry.Entry.TheVariants.{Up as Item}
+use Rattle.sja_journal.specs.declared.down.Down.{Down}
+use Rattle.sja_journal.specs.declared.down.Down.TheVariants.{Message}
+use Rattle.sja_journal.specs.declared.up.Up.TheVariants.{Credit}
+use Rattle.sja_journal.specs.declared.entry.Entry.{Entry}
+use Rattle.sja_journal.specs.declared.entry.Entry.TheVariants.{Up as Item}
 use Rattle.sja_link.specs.declared.event.Event.TheVariants.{Take}
-use Rattle.sja_link.specs.Carried.{put_in, put_of, taken_in, taken_of}
+use Rattle.sja_journal.specs.Carried.{put_in, put_of, taken_in, taken_of}
 use Rattle.lemmas.specs.Gathering.{gathered, total}
-use Rattle.sja_link.specs.Lists.{messages}
+use Rattle.sja_journal.specs.Lists.{messages}
 use Rattle.sja_link.specs.World.{is_off, is_stop, bytes_of, credits_of}
 use Rattle.lemmas.proofs.Gathered.{gathered_append, gathered_push, total_append, total_push}
 use Rattle.sja_link.proofs.JournalEntries.ListCounts.{messages_both, credits_both}
 use Rattle.sja_link.specs.Orderly.{IsOrderly}
-use Rattle.sja_threads.specs.Linked.{event_in}
+use Rattle.sja_thread_promises.specs.Linked.{event_in}
 use Rattle.sja_threads.proofs.Events.Comes.{world, Comes, comes_get, comes_gets, comes_release}
 use Rattle.sja_driver.proofs.Step.NextItem.{bytes_put, bytes_paid, IsOffLast, next_message}
 use Rattle.sja_threads.proofs.Events.Order.{Order, with_taken, put_same}

@@ -2,22 +2,22 @@
 -- credit changes of it. What the driver gives it gives right before it is taken.
 use Rattle.std.proofs.Common.{◌≡◌, ℕ, ◌+◌, ◌-◌, ◌≤◌, Bool, List, [], ◌∷◌, ◌++◌, length, map, refl, sym, ap, ap₂, ◌∙◌}
 use Rattle.std.proofs.Common.{subst, arith, append_assoc, append-nil}
-use Rattle.sja_link.specs.declared.down.Down.{Down}
-use Rattle.sja_link.specs.declared.down.Down.TheVariants.{Message, Off as OffDown}
-use Rattle.sja_link.specs.declared.up.Up.{Up}
-use Rattle.sja_link.specs.declared.entry.Entry.{Entry}
-use Rattle.sja_link.specs.declared.entry.Entry.TheVariants.{Up as Item, Stored, Off as OffEntry}
+use Rattle.sja_journal.specs.declared.down.Down.{Down}
+use Rattle.sja_journal.specs.declared.down.Down.TheVariants.{Message, Off as OffDown}
+use Rattle.sja_journal.specs.declared.up.Up.{Up}
+use Rattle.sja_journal.specs.declared.entry.Entry.{Entry}
+use Rattle.sja_journal.specs.declared.entry.Entry.TheVariants.{Up as Item, Stored, Off as OffEntry}
 use Rattle.sja_link.specs.declared.event.Event.TheVariants.{Put, Off}
-use Rattle.sja_link.specs.Carried.{put_in, put_of, taken_in, taken_of}
+use Rattle.sja_journal.specs.Carried.{put_in, put_of, taken_in, taken_of}
 use Rattle.can_frame.specs.Message.{IsMessage}
-use Rattle.sja_link.specs.Free.{free_of}
+use Rattle.sja_journal.specs.Free.{free_of}
 use Rattle.lemmas.specs.Gathering.{gathered, total}
-use Rattle.sja_link.specs.Lists.{messages}
+use Rattle.sja_journal.specs.Lists.{messages}
 use Rattle.sja_link.specs.World.{is_off, credits_of, free}
 use Rattle.lemmas.proofs.Gathered.{gathered_push, total_append}
 use Rattle.sja_link.proofs.JournalEntries.ListCounts.{credits_both}
 use Rattle.sja_link.specs.Orderly.{IsOrderly}
-use Rattle.sja_threads.specs.Linked.{event_in}
+use Rattle.sja_thread_promises.specs.Linked.{event_in}
 use Rattle.sja_threads.proofs.Events.Comes.{world, comes_act}
 use Rattle.sja_driver.proofs.Step.NextItem.{bytes_put, IsOffLast, off_last_push}
 use Rattle.sja_threads.proofs.Events.Order.{Order, with_put, with_quiet, put_same, taken_same}

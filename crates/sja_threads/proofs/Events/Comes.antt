@@ -3,20 +3,20 @@ use Rattle.std.proofs.Common.{◌≡◌, ◌≢◌, ℕ, ◌<◌, Bool, true, fa
 use Rattle.std.proofs.Common.{ap, ap₂, ◌∙◌, subst, arith, append_assoc, append-nil}
 use Rattle.std.proofs.lemmas.List.{length-append}
 use Rattle.std.proofs.Math.Seq.{drop-length}
-use Rattle.can_node.specs.declared.config.Config.{Config}
-use Rattle.can_node.specs.declared.request.Request.{Request}
-use Rattle.sja_link.specs.declared.down.Down.{Down}
-use Rattle.sja_link.specs.declared.up.Up.{Up}
-use Rattle.sja_link.specs.declared.up.Up.TheVariants.{Start as StartUp, Credit, Send as SendUp, Stop as StopUp}
+use Rattle.can_node_rules.specs.declared.config.Config.{Config}
+use Rattle.can_node_rules.specs.declared.request.Request.{Request}
+use Rattle.sja_journal.specs.declared.down.Down.{Down}
+use Rattle.sja_journal.specs.declared.up.Up.{Up}
+use Rattle.sja_journal.specs.declared.up.Up.TheVariants.{Start as StartUp, Credit, Send as SendUp, Stop as StopUp}
 use Rattle.sja_link.specs.declared.event.Event.{Event}
 use Rattle.sja_link.specs.declared.event.Event.TheVariants.{Start, Get, Release, Send, SendDone, Stop, Take}
 use Rattle.lemmas.specs.Gathering.{gathered, total}
-use Rattle.sja_link.specs.Lists.{messages}
+use Rattle.sja_journal.specs.Lists.{messages}
 use Rattle.sja_link.specs.World.{WorldValue, new_world, is_off, is_start, is_send, is_stop, credits_of}
 use Rattle.sja_link.specs.WorldEvents.{Allowed, done, first_credit, IsEvent, Reached}
 use Rattle.sja_link.specs.WorldEvents.Reached.{begun, next}
 use Rattle.lemmas.proofs.Gathered.{gathered_push}
-use Rattle.sja_threads.specs.Linked.{bus_event}
+use Rattle.sja_thread_promises.specs.Linked.{bus_event}
 
 -- a world with these lists
 abbrev pub world : List Down → List Up → List Down → List Up → Bool → WorldValue

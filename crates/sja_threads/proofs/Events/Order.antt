@@ -1,13 +1,13 @@
 -- An order of the events of a link along an activation's part of a journal, with an entry more.
 use Rattle.std.proofs.Common.{◌≡◌, Bool, List, [], ◌∷◌, ◌++◌, sym, ap, ◌∙◌, subst, append_assoc, append-nil}
-use Rattle.sja_link.specs.declared.down.Down.{Down}
-use Rattle.sja_link.specs.declared.up.Up.{Up}
-use Rattle.sja_link.specs.declared.entry.Entry.{Entry}
+use Rattle.sja_journal.specs.declared.down.Down.{Down}
+use Rattle.sja_journal.specs.declared.up.Up.{Up}
+use Rattle.sja_journal.specs.declared.entry.Entry.{Entry}
 use Rattle.sja_link.specs.declared.event.Event.{Event}
-use Rattle.sja_link.specs.Carried.{put_in, put_of, taken_in, taken_of}
+use Rattle.sja_journal.specs.Carried.{put_in, put_of, taken_in, taken_of}
 use Rattle.lemmas.specs.Gathering.{gathered}
 use Rattle.lemmas.proofs.Gathered.{gathered_push}
-use Rattle.sja_threads.specs.Linked.{event_in}
+use Rattle.sja_thread_promises.specs.Linked.{event_in}
 use Rattle.sja_threads.proofs.Events.Comes.{world, Comes}
 
 -- an order up to here, of a driver that got so much

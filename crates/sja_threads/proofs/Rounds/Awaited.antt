@@ -2,8 +2,8 @@
 use Rattle.std.proofs.Common.{◌≡◌, ◌<◌, ◌≤◌, ◌+◌, ◌++◌, ℕ, max, List, [], ◌∷◌, length, take, sym, ap, ◌∙◌, arith}
 use Rattle.std.proofs.Common.{take-suc, suc}
 use Rattle.std.specs.Prelude.{slice_index_or}
-use Rattle.sja_script.specs.declared.step.Step.{Step}
-use Rattle.sja_threads.specs.Needed.{bits_awaited, most_awaited, last_awaited}
+use Rattle.sja_steps.specs.declared.step.Step.{Step}
+use Rattle.sja_thread_promises.specs.Needed.{bits_awaited, most_awaited, last_awaited}
 
 most_push : (steps : List Step) (one : Step) →
     most_awaited (steps ++ one ∷ []) ≡ max (most_awaited steps) (bits_awaited one)

@@ -2,38 +2,39 @@
 use Rattle.std.proofs.Common.{◌≡◌, ◌≢◌, ◌++◌, ℕ, ◌<◌, ◌≤◌, Bool, true, List, [], ◌∷◌, length, inl, inr, refl, ap, ◌∙◌}
 use Rattle.std.proofs.Common.{arith, sym}
 use Rattle.std.specs.Prelude.{Result, Ok}
-use Rattle.sja_link.specs.declared.entry.Entry.{Entry}
+use Rattle.sja_journal.specs.declared.entry.Entry.{Entry}
 use Rattle.sja_regs.specs.declared.bus_turn.BusTurn.{BusTurn}
 use Rattle.sja_regs.specs.declared.orders.Orders.{Orders}
-use Rattle.sja_script.specs.declared.strike.Strike.{Strike}
-use Rattle.sja_wire.specs.Buses.{IsBit}
+use Rattle.sja_steps.specs.declared.strike.Strike.{Strike}
+use Rattle.sja_bus_rules.specs.Buses.{IsBit}
 use Rattle.sja_threads.specs.declared.round.Round.{Round}
 use Rattle.sja_threads.specs.declared.round.Round.TheVariants.{Ran as RoundRan, Rests, Spent as RoundSpent}
-use Rattle.sja_threads.specs.declared.notice.Notice.{Notice}
-use Rattle.sja_threads.specs.declared.notice.Notice.TheVariants.{Turn, Ran, Spent}
-use Rattle.sja_threads.specs.Ordering.{MayOrder, closed_told}
+use Rattle.sja_thread_promises.specs.declared.port_update.PortUpdate.{PortUpdate}
+use Rattle.sja_thread_promises.specs.declared.port_update.PortUpdate.TheVariants.{Turn, Ran, Spent}
+use Rattle.sja_thread_promises.specs.Ordering.{MayOrder, closed_told}
 use Rattle.sja_threads.specs.Inside.Boards.{AreClosed, EachTold, SaysBits, SaysSpent, StayClosed, turns_at}
 
-closed_turn : (told : List Notice) (t : BusTurn) → closed_told (told ++ Turn t ∷ []) ≡ closed_told told
+closed_turn : (told : List PortUpdate) (t : BusTurn) → closed_told (told ++ Turn t ∷ []) ≡ closed_told told
 closed_turn [] t = refl
 closed_turn (Ran many orders ∷ told) t = closed_turn told t
 closed_turn (Turn u ∷ told) t = closed_turn told t
 closed_turn (Spent ∷ told) t = refl
 
-closed_ran : (told : List Notice) (bits : ℕ) (o : Orders) → closed_told (told ++ Ran bits o ∷ []) ≡ closed_told told
+closed_ran : (told : List PortUpdate) (bits : ℕ) (o : Orders) → closed_told (told ++ Ran bits o ∷ []) ≡ closed_told told
 closed_ran [] bits o = refl
 closed_ran (Ran many orders ∷ told) bits o = closed_ran told bits o
 closed_ran (Turn u ∷ told) bits o = closed_ran told bits o
 closed_ran (Spent ∷ told) bits o = refl
 
-closed_spent : (told : List Notice) → closed_told (told ++ Spent ∷ []) ≡ true
+closed_spent : (told : List PortUpdate) → closed_told (told ++ Spent ∷ []) ≡ true
 closed_spent [] = refl
 closed_spent (Ran many orders ∷ told) = closed_spent told
 closed_spent (Turn u ∷ told) = closed_spent told
 closed_spent (Spent ∷ told) = refl
 
 -- a bit tells none so
-pub closed_bit : (count : ℕ) (before after : List (List Entry)) (was now : List (List Notice)) (script : List Strike)
+pub closed_bit : (count : ℕ) (before after : List (List Entry)) (was now : List (List PortUpdate))
+    (script : List Strike)
     (n : ℕ) (untold : List _) → count ≤ length before →
     IsBit (λ node (orders : Orders). MayOrder (turns_at was node) orders)
     (λ node (t : BusTurn). turns_at now node ≡ turns_at was node ++ Turn t ∷ [])
@@ -45,19 +46,19 @@ closed_bit count before after was now script n untold few b closed are = λ node
     ]
 
 -- nor does how many have run
-pub closed_more : (count many : ℕ) (was now : List (List Notice)) → count ≤ length was →
+pub closed_more : (count many : ℕ) (was now : List (List PortUpdate)) → count ≤ length was →
     EachTold (SaysBits many) was now → StayClosed count was now
 closed_more count many was now long each closed are = λ node few.
     let t = each node (omega (arith, few, long)) in
-    ap closed_told (t.2 ∙ ap (λ (m : Notice). turns_at was node ++ m ∷ []) t.1.1)
+    ap closed_told (t.2 ∙ ap (λ (m : PortUpdate). turns_at was node ++ m ∷ []) t.1.1)
     ∙ closed_ran (turns_at was node) many t.1.0 ∙ are node few
 
 -- and then each is told so
-pub closed_all : (count : ℕ) (was now : List (List Notice)) → count ≤ length was → EachTold SaysSpent was now →
+pub closed_all : (count : ℕ) (was now : List (List PortUpdate)) → count ≤ length was → EachTold SaysSpent was now →
     AreClosed count true now
 closed_all count was now long each = λ node few.
     let t = each node (omega (arith, few, long)) in
-    ap closed_told (t.2 ∙ ap (λ (m : Notice). turns_at was node ++ m ∷ []) t.1) ∙ closed_spent (turns_at was node)
+    ap closed_told (t.2 ∙ ap (λ (m : PortUpdate). turns_at was node ++ m ∷ []) t.1) ∙ closed_spent (turns_at was node)
 
 -- a round that ran a bit, or rests, isn't one in which they are spent
 pub ran_on : RoundRan ≢ RoundSpent

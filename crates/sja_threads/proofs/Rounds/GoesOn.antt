@@ -2,23 +2,23 @@
 use Rattle.std.proofs.Common.{◌≡◌, ℕ, ◌+◌, ◌<◌, ◌≤◌, ◌⊎◌, Bool, false, true, List, length, refl, sym, ap, ◌∙◌}
 use Rattle.std.proofs.Common.{subst, arith, inl, inr}
 use Rattle.std.specs.Prelude.{None, Result, Ok, Err, OnOk}
-use Rattle.sja_link.specs.declared.entry.Entry.{Entry}
-use Rattle.sja_link.specs.Records.{record_of}
+use Rattle.sja_journal.specs.declared.entry.Entry.{Entry}
+use Rattle.sja_journal.specs.Records.{record_of}
 use Rattle.lemmas.specs.Related.{EachRelated}
 use Rattle.sja_rings.specs.declared.node_bus.NodeBus.{NodeBus}
 use Rattle.sja_rings.specs.NodeRings.{NodeBusLists, SameNodeBus, ShowsNothingUp}
 use Rattle.sja_plan.specs.Plan.{PlanValue}
 use Rattle.sja_regs.specs.declared.bus_turn.BusTurn.{BusTurn}
 use Rattle.sja_regs.specs.declared.orders.Orders.{Orders}
-use Rattle.sja_wire.specs.Buses.{AllDry, EachJournal, KeepsAll, IsBit}
-use Rattle.sja_bus.specs.Resting.{RestsAs}
-use Rattle.sja_wire.specs.declared.bus_fault.BusFault.{BusFault}
-use Rattle.sja_wire.specs.Lawful.{IsBusRun}
-use Rattle.sja_link.specs.BitEntries.{MayHaveItems}
-use Rattle.sja_wire.specs.Wire.{journal_at}
+use Rattle.sja_bus_rules.specs.Buses.{AllDry, EachJournal, KeepsAll, IsBit}
+use Rattle.sja_bus.specs.BusRest.{RestsAs}
+use Rattle.sja_journal.specs.declared.bus_fault.BusFault.{BusFault}
+use Rattle.sja_bus_rules.specs.Lawful.{IsBusRun}
+use Rattle.sja_journal.specs.BitEntries.{MayHaveItems}
+use Rattle.sja_bus_rules.specs.Wire.{journal_at}
 use Rattle.sja_threads.specs.declared.bus_thread.BusThread.{BusThread}
-use Rattle.sja_threads.specs.Gathering.{StandFor}
-use Rattle.sja_threads.specs.Needed.{IsBitDue, AllDue, AllAtRest, last_awaited}
+use Rattle.sja_thread_promises.specs.Gathering.{StandFor}
+use Rattle.sja_thread_promises.specs.Needed.{IsBitDue, AllDue, AllAtRest, last_awaited}
 use Rattle.sja_threads.specs.Inside.Rounds.{TakesNoneBefore, IsUnderWay, GoesOn}
 use Rattle.sja_threads.proofs.Rounds.SameEnds.{ends_kept, sames_refl, sames_trans}
 use Rattle.sja_threads.proofs.Rounds.StaysDue.{AllGrow, IsWanted, due_stays, due_kept, due_more, due_now}

@@ -2,16 +2,16 @@
 use Rattle.std.proofs.Common.{◌≡◌, ◌<◌, ℕ, List, length, sym, ap, ◌∙◌, arith}
 use Rattle.std.specs.Prelude.{slice_index_or}
 use Rattle.std.proofs.lemmas.List.Elements.{AllZip-get_or}
-use Rattle.sja_link.specs.Links.{stops_of}
+use Rattle.sja_journal.specs.Links.{stops_of}
 use Rattle.sja_rings.specs.declared.node_bus.NodeBus.{NodeBus}
-use Rattle.sja_rings.specs.Inside.Carrying.{as_many_links}
+use Rattle.sja_rings.specs.Carrying.{as_many_links}
 use Rattle.sja_rings.specs.NodeRings.{rings_of_bus, SameNodeBus}
 use Rattle.sja_plan.specs.Plan.{PlanValue}
-use Rattle.sja_wire.specs.declared.bus_fault.BusFault.{BusFault}
-use Rattle.sja_wire.specs.declared.bus_fault.BusFault.TheVariants.{Stuck}
-use Rattle.sja_wire.specs.Reasons.{IsBrokenOff, IsTakenAndRefused}
-use Rattle.sja_wire.specs.Wire.{journal_at}
-use Rattle.sja_threads.specs.Stopping.{StopsOn, any_orders, ring_ends}
+use Rattle.sja_journal.specs.declared.bus_fault.BusFault.{BusFault}
+use Rattle.sja_journal.specs.declared.bus_fault.BusFault.TheVariants.{Stuck}
+use Rattle.sja_bus_rules.specs.Reasons.{IsBrokenOff, IsTakenAndRefused}
+use Rattle.sja_bus_rules.specs.Wire.{journal_at}
+use Rattle.sja_thread_promises.specs.Stopping.{StopsOn, any_orders, ring_ends}
 
 module _ (counts : List ℕ) (plan : PlanValue) (after : List NodeBus) (f : BusFault) (bits : ℕ) (steps : List ℕ)
     (s : StopsOn counts plan after f) where

@@ -5,12 +5,12 @@ use Rattle.std.proofs.lemmas.List.Elements.{AllZip-get_or}
 use Rattle.std.proofs.lemmas.Slice.Zip.{AllZip-long}
 use Rattle.lemmas.specs.Related.{EachRelated}
 use Rattle.lemmas.proofs.Related.{each_at, each_refl, each_trans}
-use Rattle.sja_link.specs.Links.{AreEnds, HaveLinks}
+use Rattle.sja_journal.specs.Links.{AreEnds, HaveLinks}
 use Rattle.sja_rings.specs.declared.node_bus.NodeBus.{NodeBus}
 use Rattle.sja_rings.specs.Ends.{SameBus, link_of_bus}
-use Rattle.sja_rings.specs.Inside.Carrying.{bus_refl, bus_trans}
+use Rattle.sja_rings.specs.Carrying.{bus_refl, bus_trans}
 use Rattle.sja_rings.specs.NodeRings.{links_of_bus, node_of_bus, rings_of_bus, SameNodeBus}
-use Rattle.sja_threads.specs.Gathering.{IsBusEnd, AreBusEnds}
+use Rattle.sja_thread_promises.specs.Gathering.{IsBusEnd, AreBusEnds}
 
 -- each is the same as itself, and that carries over
 node_refl : (b : NodeBus) → SameNodeBus b b

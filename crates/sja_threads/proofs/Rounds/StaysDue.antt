@@ -2,19 +2,19 @@
 use Rattle.std.proofs.Common.{◌≡◌, ℕ, ◌+◌, ◌<◌, ◌⊎◌, false, List, [], ◌++◌, length, refl, sym, ap, ◌∙◌, append_assoc}
 use Rattle.std.proofs.Common.{append-nil, subst, arith, inl, inr}
 use Rattle.lemmas.proofs.Numbers.{earlier_or_last}
-use Rattle.sja_link.specs.declared.entry.Entry.{Entry}
-use Rattle.sja_link.specs.Carried.{bits_of}
-use Rattle.sja_link.specs.Records.{record_of}
-use Rattle.sja_link.specs.Links.{Grows}
-use Rattle.sja_bus.specs.Resting.{RestsAs}
+use Rattle.sja_journal.specs.declared.entry.Entry.{Entry}
+use Rattle.sja_journal.specs.Carried.{bits_of}
+use Rattle.sja_journal.specs.Records.{record_of}
+use Rattle.sja_journal.specs.Links.{Grows}
+use Rattle.sja_bus.specs.BusRest.{RestsAs}
 use Rattle.lemmas.specs.Related.{EachRelated}
 use Rattle.sja_plan.specs.Plan.{PlanValue}
 use Rattle.sja_rings.specs.declared.node_bus.NodeBus.{NodeBus}
 use Rattle.sja_rings.specs.NodeRings.{SameNodeBus, ShowsNothingUp}
-use Rattle.sja_wire.specs.Buses.{AllDry}
-use Rattle.sja_wire.specs.Wire.{journal_at}
-use Rattle.sja_threads.specs.Gathering.{Gathered, StandFor}
-use Rattle.sja_threads.specs.Needed.{IsBitDue, AllDue, last_awaited}
+use Rattle.sja_bus_rules.specs.Buses.{AllDry}
+use Rattle.sja_bus_rules.specs.Wire.{journal_at}
+use Rattle.sja_thread_promises.specs.Gathering.{Gathered, StandFor}
+use Rattle.sja_thread_promises.specs.Needed.{IsBitDue, AllDue, last_awaited}
 use Rattle.sja_threads.specs.Inside.Rounds.{StayDue}
 
 -- each journal grew

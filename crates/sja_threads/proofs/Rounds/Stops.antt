@@ -1,23 +1,23 @@
 -- Why the bus of a run in threads stops.
 use Rattle.std.proofs.Common.{◌≡◌, ◌≢◌, ℕ, ◌+◌, ◌<◌, List, length, refl, sym, ◌∙◌, subst, arith, inl, inr}
 use Rattle.std.specs.Prelude.{◌⊎◌, None, Result, Ok, Err, IfErr}
-use Rattle.sja_link.specs.declared.entry.Entry.{Entry}
+use Rattle.sja_journal.specs.declared.entry.Entry.{Entry}
 use Rattle.sja_link.specs.declared.bus_end.BusEnd.{Ghosts as Ends}
 use Rattle.lemmas.specs.Related.{EachRelated}
 use Rattle.sja_regs.specs.declared.orders.Orders.{Orders}
 use Rattle.sja_rings.specs.declared.node_bus.NodeBus.{NodeBus}
 use Rattle.sja_rings.specs.NodeRings.{SameNodeBus}
 use Rattle.sja_plan.specs.Plan.{PlanValue}
-use Rattle.sja_wire.specs.declared.bus_fault.BusFault.{BusFault}
-use Rattle.sja_wire.specs.declared.bus_fault.BusFault.TheVariants.{BitsSpent, JournalFull}
-use Rattle.sja_wire.specs.Buses.{BusValue}
-use Rattle.sja_wire.specs.Lawful.{IsBusRun}
-use Rattle.sja_wire.specs.Reasons.{IsRefusedFor, IsBrokenFor, IsTakenAndRefused, StopsBit, room_for}
-use Rattle.sja_wire.specs.Reasons.StopsBit.{spent, not_taken, not_aborted, broken_off}
-use Rattle.sja_wire.specs.Wire.{journal_at}
+use Rattle.sja_journal.specs.declared.bus_fault.BusFault.{BusFault}
+use Rattle.sja_journal.specs.declared.bus_fault.BusFault.TheVariants.{BitsSpent, JournalFull}
+use Rattle.sja_bus_rules.specs.Buses.{BusValue}
+use Rattle.sja_bus_rules.specs.Lawful.{IsBusRun}
+use Rattle.sja_bus_rules.specs.Reasons.{IsRefusedFor, IsBrokenFor, IsTakenAndRefused, StopsBit, room_for}
+use Rattle.sja_bus_rules.specs.Reasons.StopsBit.{spent, not_taken, not_aborted, broken_off}
+use Rattle.sja_bus_rules.specs.Wire.{journal_at}
 use Rattle.sja_threads.specs.declared.bus_thread.BusThread.{BusThread}
-use Rattle.sja_threads.specs.Gathering.{AreBusEnds, StandFor}
-use Rattle.sja_threads.specs.Stopping.{any_orders, ring_ends, StopsOn}
+use Rattle.sja_thread_promises.specs.Gathering.{AreBusEnds, StandFor}
+use Rattle.sja_thread_promises.specs.Stopping.{any_orders, ring_ends, StopsOn}
 use Rattle.sja_threads.specs.Inside.Rounds.{IsUnderWay, GoesOn, Stops}
 use Rattle.sja_threads.proofs.Rounds.SameEnds.{ends_kept, sames_trans}
 

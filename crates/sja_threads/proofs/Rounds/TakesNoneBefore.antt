@@ -1,21 +1,21 @@
 -- No item is taken before the first activation.
 use Rattle.std.proofs.Common.{◌≡◌, Bool, false, List, [], ◌∷◌, ◌++◌, refl, ap, ◌∙◌, cond, append_assoc, arith}
 use Rattle.std.proofs.lemmas.Bool.{ne_eqb}
-use Rattle.can_bits.specs.declared.level.Level.{Level}
-use Rattle.sja_link.specs.declared.up.Up.{Up}
-use Rattle.sja_link.specs.declared.entry.Entry.{Entry}
-use Rattle.sja_link.specs.declared.entry.Entry.TheVariants.{Up as Item}
-use Rattle.sja_link.specs.Places.{past, place_of}
-use Rattle.sja_link.specs.Parts.{part}
-use Rattle.sja_link.specs.Carried.{taken_of}
+use Rattle.can_levels.specs.declared.level.Level.{Level}
+use Rattle.sja_journal.specs.declared.up.Up.{Up}
+use Rattle.sja_journal.specs.declared.entry.Entry.{Entry}
+use Rattle.sja_journal.specs.declared.entry.Entry.TheVariants.{Up as Item}
+use Rattle.sja_journal.specs.Places.{past, place_of}
+use Rattle.sja_journal.specs.Parts.{part}
+use Rattle.sja_journal.specs.Carried.{taken_of}
 use Rattle.sja_regs.specs.declared.bus_turn.BusTurn.{BusTurn}
 use Rattle.sja_regs.specs.declared.orders.Orders.{Orders}
-use Rattle.sja_wire.specs.Buses.{IsNodeBit}
-use Rattle.sja_link.specs.Links.{Grows}
-use Rattle.sja_link.specs.BitEntries.{AreRead, MayHaveItems, abort_as, entries_of_items}
-use Rattle.sja_log.proofs.NodeLog.Adding.{added, added_own, bit_whole}
+use Rattle.sja_bus_rules.specs.Buses.{IsNodeBit}
+use Rattle.sja_journal.specs.Links.{Grows}
+use Rattle.sja_journal.specs.BitEntries.{AreRead, MayHaveItems, abort_as, entries_of_items}
+use Rattle.sja_promises.proofs.NodeLog.Adding.{added, added_own, bit_whole}
 use Rattle.sja_driver.proofs.Account.Own.{own_taken}
-use Rattle.sja_link.proofs.Growing.Taking.{adds, taken_adds}
+use Rattle.sja_journal.proofs.Growing.Taking.{adds, taken_adds}
 use Rattle.sja_threads.specs.Inside.Rounds.{TakesNoneBefore}
 
 none_added : (j : List Entry) (us : List Up) → AreRead j us → adds j us 0 ≡ []

@@ -3,16 +3,16 @@ use Rattle.std.proofs.Common.{◌≡◌, ℕ, ◌<◌, false, List, [], length, 
 use Rattle.std.specs.Prelude.{slice_index_or}
 use Rattle.std.proofs.lemmas.List.{length-replicate}
 use Rattle.lemmas.proofs.Lists.{some_of}
-use Rattle.sja_link.specs.declared.entry.Entry.{Entry}
-use Rattle.sja_link.specs.Carried.{taken_of}
-use Rattle.sja_link.specs.Links.{Kept}
-use Rattle.sja_link.specs.Parts.{part}
+use Rattle.sja_journal.specs.declared.entry.Entry.{Entry}
+use Rattle.sja_journal.specs.Carried.{taken_of}
+use Rattle.sja_journal.specs.Links.{Kept}
+use Rattle.sja_journal.specs.Parts.{part}
 use Rattle.sja_rings.specs.declared.node_bus.NodeBus.{NodeBus}
 use Rattle.sja_rings.specs.NodeRings.{NodeBusLists}
 use Rattle.sja_plan.specs.Plan.{PlanValue}
-use Rattle.sja_wire.specs.Buses.{BusValue, new_bus}
-use Rattle.sja_wire.specs.Wire.{journal_at}
-use Rattle.sja_wire.proofs.Wires.{no_journal}
+use Rattle.sja_bus_rules.specs.Buses.{BusValue, new_bus}
+use Rattle.sja_bus_rules.specs.Wire.{journal_at}
+use Rattle.sja_bus_rules.proofs.Wires.{no_journal}
 use Rattle.sja_threads.specs.declared.bus_thread.BusThread.{BusThread}
 use Rattle.sja_threads.specs.declared.thread_start.ThreadStart.{ThreadStart}
 use Rattle.sja_threads.specs.Inside.Making.{AreNewEnds, AreMade}

@@ -4,11 +4,11 @@ use Rattle.std.proofs.Common.{sym, ap, ◌∙◌, subst, arith, nat_lt, if◌the
 use Rattle.std.specs.Prelude.{slice_index_or}
 use Rattle.std.proofs.lemmas.Bool.{cases_eq, lt-ltb}
 use Rattle.std.proofs.lemmas.List.{get_or_append_left, get_or_push}
-use Rattle.sja_link.specs.Sizes.{most_activations}
+use Rattle.sja_journal.specs.Sizes.{most_activations}
 use Rattle.sja_rings.specs.declared.node_bus.NodeBus.{NodeBus}
 use Rattle.sja_plan.specs.Plan.{PlanValue, IsInLimits, steps_at}
 use Rattle.sja_plan.proofs.PlanLimits.ByVersion.{steps_most}
-use Rattle.sja_script.specs.declared.step.Step.{Step}
+use Rattle.sja_steps.specs.declared.step.Step.{Step}
 use Rattle.sja_driver.specs.declared.work_log.WorkLog.{WorkLog}
 use Rattle.sja_driver.specs.Logs.{HasRoom, IsEmpty, IsMadeFor, KeepsLog, done_room}
 use Rattle.sja_threads.specs.declared.thread_start.ThreadStart.{ThreadStart}
@@ -45,10 +45,10 @@ made_push plan count starts buses s b many long so new =
 -- the lists of one port more
 pub listed_push : {G : Type 0} (count : ℕ) (starts : List (ThreadStart G)) (lists : List PortLists)
     (s : ThreadStart G) (l : PortLists) → length starts ≡ count → length lists ≡ count →
-    l.deeds.name ≡ s.done.name → AreListed count starts lists →
+    l.acts.name ≡ s.done.name → AreListed count starts lists →
     AreListed (count + 1) (starts ++ s ∷ []) (lists ++ l ∷ [])
 listed_push count starts lists s l many long new so =
-    both_push (λ node x y. y.deeds.name ≡ x.done.name) count starts lists s l many long so new
+    both_push (λ node x y. y.acts.name ≡ x.done.name) count starts lists s l many long so new
 
 -- a node of a plan has no more than 64 activations
 few_activations : (version : ℕ) → version ≤ 3 → most_activations version ≤ 64

@@ -1,9 +1,9 @@
 -- The two ends of a node's links, on which nothing was done yet.
 use Rattle.std.proofs.Common.{◌≡◌, ℕ, suc, Option, Some, None, List, [], refl, sym, ◌∙◌}
-use Rattle.sja_link.specs.declared.entry.Entry.{Entry}
-use Rattle.sja_link.specs.Accounts.{Account, account}
-use Rattle.sja_link.specs.Links.{Kept}
-use Rattle.sja_link.specs.Lists.{Lists, nothing_yet}
+use Rattle.sja_journal.specs.declared.entry.Entry.{Entry}
+use Rattle.sja_journal.specs.Accounts.{Account, account}
+use Rattle.sja_journal.specs.Links.{Kept}
+use Rattle.sja_journal.specs.Lists.{Lists, nothing_yet}
 use Rattle.sja_rings.specs.declared.node_bus.NodeBus.{NodeBus}
 use Rattle.sja_rings.specs.declared.node_driver.NodeDriver.{NodeDriver}
 use Rattle.sja_rings.specs.declared.ring_bus.RingBus.{RingBus}

@@ -8,7 +8,7 @@ use Rattle.sja_rings.specs.declared.node_driver.NodeDriver.{NodeDriver}
 use Rattle.sja_rings.specs.NodeRings.{NodeDriverLists, SameNodeDriver}
 use Rattle.sja_regs.specs.DriverSettings.{SettingsValue, settings_in}
 use Rattle.sja_regs.specs.Registers.{at_power_on}
-use Rattle.sja_script.specs.declared.step.Step.{Step}
+use Rattle.sja_steps.specs.declared.step.Step.{Step}
 use Rattle.sja_plan.specs.Plan.{PlanValue, steps_at}
 use Rattle.sja_driver.specs.LoggedDrivers.{log_of}
 use Rattle.sja_driver.specs.Logs.{HasRoom, KeepsLog, done_in, done_room}
@@ -53,10 +53,10 @@ module _ {G : Type 0} (plan : PlanValue) where
       subst (λ (l : List (ThreadStart G)). All (IsThreadStart plan) l) is starts in
       λ k d less. those (suc k) d (omega (arith, less))
 
--- each thread's list of deeds is that of its port
+-- each thread's list of acts is that of its port
 pub all_ordered : {G : Type 0} (plan : PlanValue) (starts : List (ThreadStart G)) (lists : List PortLists)
     (buses : List NodeBus) (names : List ℕ) (version : ℕ) → version ≡ plan.version →
-    map (λ (l : PortLists). l.deeds.name) lists ≡ names → length lists ≡ length plan.nodes →
+    map (λ (l : PortLists). l.acts.name) lists ≡ names → length lists ≡ length plan.nodes →
     length starts ≡ length plan.nodes → length buses ≡ length plan.nodes →
     AreMade plan (length plan.nodes) starts buses → AreListed (length plan.nodes) starts lists →
     AreOrdered version names plan.version starts
@@ -68,9 +68,9 @@ all_ordered {G} plan starts lists buses names version same are many long count m
     let start : ThreadStart G = slice_index_or starts k s in (
       sym same,
       subst (λ (n : List ℕ). IsNamed n start.node start.done.name) are
-          (subst (λ (n : ℕ). IsNamed (map (λ (x : PortLists). x.deeds.name) lists) n start.done.name)
+          (subst (λ (n : ℕ). IsNamed (map (λ (x : PortLists). x.acts.name) lists) n start.done.name)
           (sym (made k s b few).own)
-          (get_placed (λ (x : PortLists). x.deeds.name) lists k l within ∙ ap Some (listed k s l few))),
+          (get_placed (λ (x : PortLists). x.acts.name) lists k l within ∙ ap Some (listed k s l few))),
     )
 
 -- the lists of all but the first

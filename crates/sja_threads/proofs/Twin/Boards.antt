@@ -6,15 +6,16 @@ use Rattle.std.proofs.lemmas.Bool.{cases_eq}
 use Rattle.std.proofs.lemmas.List.{get_or-set_same, get_or-set_other, get_or-map, length-map, map-set}
 use Rattle.sja_threads.specs.declared.order.Order.{Ghosts as Orders}
 use Rattle.sja_regs.specs.declared.orders.Orders.{Orders as BusOrders}
-use Rattle.sja_threads.specs.declared.notice.Notice.{Notice}
-use Rattle.sja_threads.specs.declared.notice.Notice.TheVariants.{Ran}
+use Rattle.sja_thread_promises.specs.declared.port_update.PortUpdate.{PortUpdate}
+use Rattle.sja_thread_promises.specs.declared.port_update.PortUpdate.TheVariants.{Ran}
 use Rattle.sja_threads.specs.declared.turns_of_node.TurnsOfNode.{TurnsOfNode}
-use Rattle.sja_threads.specs.Ordering.{abort_told, ended_told}
+use Rattle.sja_thread_promises.specs.Ordering.{abort_told, ended_told}
 use Rattle.sja_threads.specs.Inside.Boards.{EachTold, FirstTold, SaysBits, turns_at, turns_in}
 
 module _ {N : Type 0} {o : Orders N} (told : List (TurnsOfNode N o)) (node : ℕ) (t : TurnsOfNode N o) where
   -- that of this node
-  pub told_here : (turn : Notice) (old : TurnsOfNode N o) → node < length told → old ≡ slice_index_or told node old →
+  pub told_here : (turn : PortUpdate) (old : TurnsOfNode N o) → node < length told →
+      old ≡ slice_index_or told node old →
       t.known.list ≡ old.known.list ++ turn ∷ [] →
       turns_at (turns_in (slice_set told node t)) node ≡ turns_at (turns_in told) node ++ turn ∷ []
   told_here turn old less there is =
@@ -29,7 +30,7 @@ module _ {N : Type 0} {o : Orders N} (told : List (TurnsOfNode N o)) (node : ℕ
   -- told how many bits have run
   pub bits_here : (bits : ℕ) (orders : BusOrders) (old : TurnsOfNode N o) → node < length told →
       old ≡ slice_index_or told node old → t.known.list ≡ old.known.list ++ Ran bits orders ∷ [] →
-      (more : Notice) × SaysBits bits more
+      (more : PortUpdate) × SaysBits bits more
       × (turns_at (turns_in (slice_set told node t)) node ≡ turns_at (turns_in told) node ++ more ∷ [])
   bits_here bits orders old less there is =
       (Ran bits orders, (orders, refl), told_here (Ran bits orders) old less there is)
@@ -57,12 +58,12 @@ module _ {N : Type 0} {o : Orders N} (told : List (TurnsOfNode N o)) (node : ℕ
 
 -- ---- one after the other
 
-module _ (IsMore : Notice → Type 0) where
-  pub first_none : (a : List (List Notice)) → FirstTold IsMore 0 a a
+module _ (IsMore : PortUpdate → Type 0) where
+  pub first_none : (a : List (List PortUpdate)) → FirstTold IsMore 0 a a
   first_none a = record { told = λ k less. absurd (omega (arith, less)); others = λ k there. refl }
 
-  pub first_more : (many : ℕ) (a b c : List (List Notice)) → FirstTold IsMore many a b →
-      (more : Notice) × IsMore more × (turns_at c many ≡ turns_at b many ++ more ∷ []) →
+  pub first_more : (many : ℕ) (a b c : List (List PortUpdate)) → FirstTold IsMore many a b →
+      (more : PortUpdate) × IsMore more × (turns_at c many ≡ turns_at b many ++ more ∷ []) →
       ((k : ℕ) → k ≢ many → turns_at c k ≡ turns_at b k) → FirstTold IsMore (many + 1) a c
   first_more many a b c first here there = record {
     told = λ k less.
@@ -81,7 +82,7 @@ module _ (IsMore : Notice → Type 0) where
         let other : k ≢ many = omega (arith, past) in there k other ∙ first.others k (omega (arith, past));
   }
 
-  pub each_first : {N : Type 0} {o : Orders N} (many : ℕ) (a : List (TurnsOfNode N o)) (b : List (List Notice)) →
+  pub each_first : {N : Type 0} {o : Orders N} (many : ℕ) (a : List (TurnsOfNode N o)) (b : List (List PortUpdate)) →
       FirstTold IsMore many (turns_in a) b → length a ≤ many → EachTold IsMore (turns_in a) b
   each_first {N} {o} many a b first all = λ node less.
       let long = length-map a (λ (x : TurnsOfNode N o). x.known.list) in

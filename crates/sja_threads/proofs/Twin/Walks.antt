@@ -1,6 +1,6 @@
 -- What the walks share: the one machine value of a half, and facts in a row. Assumes `Logic`.
-use mathlib.Core.Path.{◌≡◌, refl, ap, ◌∙◌}
-use mathlib.Core.List.{List, [], ◌∷◌, ◌++◌}
+use mathlib.Core.Path.{refl}
+use mathlib.Core.List.{List, [], ◌∷◌}
 use seplogic.Ra.Ura.{Ura}
 use mir.Syntax.{Sym}
 use mir.Val.{Val, vstruct, vcons, vnil, of_list}
@@ -22,9 +22,6 @@ token = vstruct (vcons (vstruct vnil) vnil)
 module _ (ν : Sym) (types : List RattleType) (T : RattleType) where
   abbrev pub Mark : RattleType
   Mark = Struct (record { name = ν; args = []; types = types; fields = (marker.the_field T).row ∷ [] })
-
-  pub told : (vs : List Val) → Is Mark (tt, tt) vs → vs ≡ token ∷ []
-  told vs is = is.1.0 ∙ ap (λ (ws : List Val). vstruct (of_list (ws ++ [])) ∷ []) is.1.1.0.1.0
 
   pub made : {M : Type 1} {𝓤 : Ura M} (𝓛 : Logic 𝓤) → ent 𝓤 (emp 𝓤) (sem 𝓛 (Mark.own_val (tt, tt) (token ∷ [])))
   made 𝓛 = makes_shadow 𝓛 (Mark.own_val (tt, tt) (token ∷ [])) (λ vss. (tt, ((λ uss. (tt, tt)), tt))) (

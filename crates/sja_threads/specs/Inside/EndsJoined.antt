@@ -8,11 +8,11 @@ use Rattle.sja_rings.specs.NodeRings.{rings_of_driver, OneNode}
 use Rattle.sja_plan.specs.Plan.{PlanValue, steps_at}
 use Rattle.sja_regs.specs.DriverSettings.{settings_in}
 use Rattle.sja_regs.specs.Registers.{at_power_on}
-use Rattle.sja_driver.specs.Deeds.{given_in, deeds_of}
-use Rattle.sja_wire.specs.declared.bus_fault.BusFault.{BusFault}
+use Rattle.sja_driver.specs.TypedActs.{given_in, acts_of}
+use Rattle.sja_journal.specs.declared.bus_fault.BusFault.{BusFault}
 use Rattle.sja_threads.specs.declared.handover.Handover.{Handover}
-use Rattle.sja_threads.specs.Accessing.{Work, Follows, deeds_done, work_at}
-use Rattle.sja_threads.specs.Stopping.{StopsOn, deed_counts}
+use Rattle.sja_thread_promises.specs.Accessing.{Work, Follows, acts_done, work_at}
+use Rattle.sja_thread_promises.specs.Stopping.{StopsOn, act_counts}
 
 -- of each of so many nodes the bus's end and the driver's come from one pair
 pub record AreJoined (nodes : ℕ) (links : List NodeBus) (workeds : List (Handover NodeDriver)) : Type 0 where
@@ -25,13 +25,13 @@ pub record AreJoined (nodes : ℕ) (links : List NodeBus) (workeds : List (Hando
 abbrev pub AreGivenBy : ℕ → List Work → List (Handover NodeDriver) → Type 0
 AreGivenBy nodes works workeds = (node a : ℕ) (w : Handover NodeDriver) (d : RingDriver) → node < nodes → a < 64 →
     sent (slice_index_or (rings_of_driver (slice_index_or workeds node w).end) a d).up
-    ≡ given_in (deeds_of (deeds_done (work_at works node)) (suc a))
+    ≡ given_in (acts_of (acts_done (work_at works node)) (suc a))
 
 -- the bus of a run of this plan stopped with this fault, and all threads are joined: what each driver did of its
 -- script, and gave
 pub record IsStopped (plan : PlanValue) (links : List NodeBus) (workeds : List (Handover NodeDriver)) (f : BusFault) :
     Type 0 where
-  pub stop : StopsOn (deed_counts plan) plan links f
+  pub stop : StopsOn (act_counts plan) plan links f
   pub works : List Work
   pub follows : (node : ℕ) → node < length plan.nodes →
       Follows plan.version (settings_in (at_power_on plan.version)) (steps_at plan node) (work_at works node)

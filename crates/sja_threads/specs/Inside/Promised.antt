@@ -7,7 +7,7 @@ use Rattle.sja_plan.specs.Plan.{PlanValue}
 use Rattle.sja_threads.specs.declared.thread_start.ThreadStart.{ThreadStart}
 use Rattle.sja_threads.specs.declared.thread_promise.ThreadPromise.{ThreadPromise}
 use Rattle.sja_threads.specs.declared.handover.Handover.{Handover}
-use Rattle.sja_wire.specs.declared.bus_fault.BusFault.{BusFault}
+use Rattle.sja_journal.specs.declared.bus_fault.BusFault.{BusFault}
 use Rattle.sja_threads.specs.Inside.EndsJoined.{IsStopped}
 use Rattle.sja_threads.specs.Inside.Started.{HandsBack}
 

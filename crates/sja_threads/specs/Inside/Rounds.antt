@@ -1,21 +1,21 @@
 -- The bus of a run in threads from one round to the next, whatever its drivers do meanwhile.
 use Rattle.std.specs.Prelude.{◌≡◌, ◌+◌, ◌<◌, ℕ, true, None, List, [], length, slice_index_or}
-use Rattle.sja_link.specs.declared.entry.Entry.{Entry}
-use Rattle.sja_link.specs.Accounts.{Account}
-use Rattle.sja_link.specs.Parts.{part}
-use Rattle.sja_link.specs.Carried.{bits_of, taken_of}
+use Rattle.sja_journal.specs.declared.entry.Entry.{Entry}
+use Rattle.sja_journal.specs.Accounts.{Account}
+use Rattle.sja_journal.specs.Parts.{part}
+use Rattle.sja_journal.specs.Carried.{bits_of, taken_of}
 use Rattle.lemmas.specs.Related.{EachRelated}
 use Rattle.sja_rings.specs.declared.node_bus.NodeBus.{NodeBus}
 use Rattle.sja_rings.specs.NodeRings.{NodeBusLists, SameNodeBus}
 use Rattle.sja_plan.specs.Plan.{PlanValue}
-use Rattle.sja_link.specs.Links.{Kept}
-use Rattle.sja_wire.specs.declared.bus_fault.BusFault.{BusFault}
-use Rattle.sja_wire.specs.Wire.{journal_at}
+use Rattle.sja_journal.specs.Links.{Kept}
+use Rattle.sja_journal.specs.declared.bus_fault.BusFault.{BusFault}
+use Rattle.sja_bus_rules.specs.Wire.{journal_at}
 use Rattle.sja_log.specs.declared.end.End.{End}
 use Rattle.sja_threads.specs.declared.bus_thread.BusThread.{BusThread}
-use Rattle.sja_threads.specs.Gathering.{AreBusEnds}
-use Rattle.sja_threads.specs.Needed.{IsBitDue, AllDue, EndsDuly}
-use Rattle.sja_threads.specs.Stopping.{StopsOn}
+use Rattle.sja_thread_promises.specs.Gathering.{AreBusEnds}
+use Rattle.sja_thread_promises.specs.Needed.{IsBitDue, AllDue, EndsDuly}
+use Rattle.sja_thread_promises.specs.Stopping.{StopsOn}
 
 -- no item was taken before the first activation
 abbrev pub TakesNoneBefore : List Entry → Type 0

@@ -1,9 +1,9 @@
 -- What is left on the links of a run that is over.
 use Rattle.std.specs.Prelude.{◌≡◌, ◌<◌, ◌++◌, ℕ, List, length, map, slice_index_or}
 use Rattle.rtrb.specs.Ring.{sent}
-use Rattle.sja_link.specs.declared.down.Down.{Down}
+use Rattle.sja_journal.specs.declared.down.Down.{Down}
 use Rattle.sja_link.specs.declared.older_down.OlderDown.{OlderDown}
-use Rattle.sja_link.specs.Lists.{Lists}
+use Rattle.sja_journal.specs.Lists.{Lists}
 use Rattle.sja_rings.specs.declared.node_bus.NodeBus.{NodeBus}
 use Rattle.sja_rings.specs.declared.node_driver.NodeDriver.{NodeDriver}
 use Rattle.sja_rings.specs.declared.ring_bus.RingBus.{RingBus}
@@ -13,13 +13,13 @@ use Rattle.sja_rings.specs.NodeRings.{rings_of_bus, rings_of_driver, NodeBusList
 use Rattle.sja_driver.specs.declared.logged_driver.LoggedDriver.{LoggedDriver}
 use Rattle.sja_driver.specs.LoggedDrivers.{log_of}
 use Rattle.sja_driver.specs.Logs.{done_in}
-use Rattle.sja_wire.specs.Buses.{BusValue}
+use Rattle.sja_bus_rules.specs.Buses.{BusValue}
 use Rattle.sja_log.specs.declared.end.End.{End}
-use Rattle.sja_log.specs.LeftDown.{left_of}
+use Rattle.sja_promises.specs.LeftDown.{left_of}
 use Rattle.sja_log.specs.Log.{NodeValue, RunValue, journals_in}
 use Rattle.sja_threads.specs.declared.handover.Handover.{Handover}
-use Rattle.sja_threads.specs.Linked.{AreLinked}
-use Rattle.sja_threads.specs.Stopping.{CameFirst, IsUnsettledBy}
+use Rattle.sja_thread_promises.specs.Linked.{AreLinked}
+use Rattle.sja_thread_promises.specs.Stopping.{CameFirst, IsUnsettledBy}
 
 -- the drivers that were handed back, and their ends of the nodes' links
 abbrev pub all_drivers : List (Handover NodeDriver) → List LoggedDriver

@@ -22,12 +22,12 @@ pub record IsThreadStart {G : Type 0} (plan : PlanValue) (s : ThreadStart G) : T
   pub own : node_of_driver s.end ≡ s.node
   pub none : s.done.list ≡ []
 
--- each has its list of deeds in the order that the ports keep
+-- each has its list of acts in the order that the ports keep
 abbrev pub AreOrdered : {G : Type 0} → ℕ → List ℕ → ℕ → List (ThreadStart G) → Type 0
 AreOrdered {G} order_version names version starts =
     All (λ (s : ThreadStart G). IsOrderOf order_version names version s.node s.done.name) starts
 
--- what it hands back: the same end and the same list of deeds, and a driver that followed its script with them, all of
+-- what it hands back: the same end and the same list of acts, and a driver that followed its script with them, all of
 -- it that its gate let, and whose log keeps all
 pub record HandsBack (Lets : ℕ → ℕ → ℕ → Type 0) (plan : PlanValue) (node : ℕ) (end : NodeDriver) (name : ℕ)
     (w : Handover NodeDriver) : Type 0 where

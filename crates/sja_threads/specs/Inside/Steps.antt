@@ -1,13 +1,13 @@
--- The deeds of a driver in its thread.
+-- The acts of a driver in its thread.
 use Rattle.std.specs.Prelude.{◌≡◌, ◌≤◌, ◌+◌, ◌++◌, ℕ, Bool, true, false, Option, Some, None, List, [], ◌∷◌, length, map}
 use Rattle.sja_link.specs.declared.driver_end.DriverEnd.{Ghosts as Ends}
 use Rattle.lemmas.specs.Gathering.{total}
-use Rattle.sja_script.specs.declared.step.Step.{Step}
-use Rattle.sja_script.specs.declared.step.Step.TheVariants.{Release}
-use Rattle.sja_script.specs.declared.step_answer.StepAnswer.{StepAnswer}
-use Rattle.sja_driver.specs.Accesses.{by_bytes}
+use Rattle.sja_steps.specs.declared.step.Step.{Step}
+use Rattle.sja_steps.specs.declared.step.Step.TheVariants.{Release}
+use Rattle.sja_steps.specs.declared.step_answer.StepAnswer.{StepAnswer}
+use Rattle.sja_driver.specs.StepRuns.{by_bytes}
 use Rattle.sja_driver.specs.AnyDrivers.{is_out}
-use Rattle.sja_driver.specs.Deeds.{Deed}
+use Rattle.sja_driver.specs.TypedActs.{TypedAct}
 use Rattle.sja_driver.specs.Holding.{Goes}
 use Rattle.sja_driver.specs.LoggedDrivers.{node_of, driver_of, log_of, kept_of, IsLawful}
 use Rattle.sja_driver.specs.Logs.{HasRoom, IsEmpty, KeepsLog, Traces, done_in, done_room}
@@ -17,21 +17,21 @@ use Rattle.sja_driver.specs.Kept.{at_power_on}
 use Rattle.sja_driver.specs.Written.{written_by}
 use Rattle.sja_threads.specs.declared.order.Order.{Ghosts as Orders}
 use Rattle.sja_threads.specs.declared.driver_thread.DriverThread.{DriverThread}
-use Rattle.sja_threads.specs.Accessing.{LeadOn}
-use Rattle.sja_threads.specs.Counting.{AreCounted, found_after}
-use Rattle.sja_threads.specs.Ordering.{active_by, done_at_port, done_in_order}
+use Rattle.sja_thread_promises.specs.Accessing.{LeadOn}
+use Rattle.sja_thread_promises.specs.Counting.{AreCounted, found_after}
+use Rattle.sja_thread_promises.specs.Ordering.{active_by, done_at_port, done_in_order}
 use Rattle.sja_threads.specs.Inside.Ordered.{set_after}
 
 -- ---- how much room a log needs
 
--- a deed of this step takes so much of it: a release does, and nothing else
+-- an act of this step takes so much of it: a release does, and nothing else
 abbrev pub room_of : Step → ℕ
 room_of Release = 1
 room_of other = 0
 
--- deeds take so much together
-abbrev pub room_taken : List Deed → ℕ
-room_taken deeds = total room_of (map (λ (d : Deed). d.step) deeds)
+-- acts take so much together
+abbrev pub room_taken : List TypedAct → ℕ
+room_taken acts = total room_of (map (λ (d : TypedAct). d.step) acts)
 
 -- of these steps only the last one takes any
 abbrev pub LastTakes : List Step → Type 0
@@ -42,7 +42,7 @@ LastTakes (this ∷ next ∷ rest) = (room_of this ≡ 0) × LastTakes (next ∷
 -- ---- what may be done
 
 -- a driver may go on that releases so many messages more at most: its log has room for them, and its end is that of its
--- node's links. What it has set, and whether it is out of reset, is so by its deeds at the port
+-- node's links. What it has set, and whether it is out of reset, is so by its acts at the port
 pub record MayWork {N E : Type 0} {o : Orders N} (node_at : E → ℕ) (t : DriverThread N E o) (many : ℕ) : Type 0 where
   pub bytes : t.bytes ≡ by_bytes t.set.version
   pub set : set_after t.done.version t.done.known.list ≡ t.set
@@ -67,60 +67,60 @@ pub record MayBegin {N E : Type 0} {o : Orders N} (node_at : E → ℕ) (t : Dri
   pub kept : kept_of t.driver ≡ at_power_on
   pub traces : (version : ℕ) → Traces version (driver_of t.driver) (log_of t.driver) []
 
--- ---- deeds
+-- ---- acts
 
--- a driver did these deeds, each once and in this order: with them its log and its links went on, for all deeds before
+-- a driver did these acts, each once and in this order: with them its log and its links went on, for all acts before
 -- and for all journals, and so did what it has set, which is of the same version; its end is the same one, its log
 -- keeps all if it did, and has the room left that they didn't take
-pub record Does {N E : Type 0} {o : Orders N} (e : Ends E) (was now : DriverThread N E o) (deeds : List Deed) :
+pub record Does {N E : Type 0} {o : Orders N} (e : Ends E) (was now : DriverThread N E o) (acts : List TypedAct) :
     Type 0 where
   pub version : now.set.version ≡ was.set.version
   pub goes : Goes e.stands was.set.version (driver_of was.driver) (driver_of now.driver) (log_of was.driver)
-      (log_of now.driver) was.end now.end deeds
-  pub leads : (before : List Deed) → Traces was.set.version (driver_of was.driver) (log_of was.driver) before →
-      LeadOn before was.set deeds now.set
+      (log_of now.driver) was.end now.end acts
+  pub leads : (before : List TypedAct) → Traces was.set.version (driver_of was.driver) (log_of was.driver) before →
+      LeadOn before was.set acts now.set
   pub alike : e.same was.end now.end
   pub node : node_of now.driver ≡ node_of was.driver
   pub same : now.done.node ≡ was.done.node
-  pub at_port : done_in_order now.done.known.list ≡ done_in_order was.done.known.list ++ done_at_port deeds
+  pub at_port : done_in_order now.done.known.list ≡ done_in_order was.done.known.list ++ done_at_port acts
   pub keeps : KeepsLog (log_of was.driver) → KeepsLog (log_of now.driver)
-  pub able : (n : ℕ) → MayWork e.node was (room_taken deeds + n) → MayWork e.node now n
+  pub able : (n : ℕ) → MayWork e.node was (room_taken acts + n) → MayWork e.node now n
 
 -- they count bits on from what it had found run, and so many it has found then
-pub record CountsOn {N E : Type 0} {o : Orders N} (was now : DriverThread N E o) (deeds : List Deed) : Type 0 where
-  pub are : AreCounted was.found deeds
-  pub found : now.found ≡ found_after was.found deeds
+pub record CountsOn {N E : Type 0} {o : Orders N} (was now : DriverThread N E o) (acts : List TypedAct) : Type 0 where
+  pub are : AreCounted was.found acts
+  pub found : now.found ≡ found_after was.found acts
 
 -- nothing more is entered as done, and what is kept stays
 pub record EntersNone (was now : LoggedDriver) : Type 0 where
   pub done : (log_of now).done ≡ (log_of was).done
   pub kept : kept_of now ≡ kept_of was
 
--- one deed of this step with this answer, or none where it has no answer
-abbrev pub IsDeedIf : Step → Option StepAnswer → List Deed → Type 0
-IsDeedIf this None deeds = deeds ≡ []
-IsDeedIf this (Some answer) deeds =
-    (map (λ (d : Deed). d.step) deeds ≡ this ∷ []) × (map (λ (d : Deed). d.answer) deeds ≡ answer ∷ [])
+-- one act of this step with this answer, or none where it has no answer
+abbrev pub IsActIf : Step → Option StepAnswer → List TypedAct → Type 0
+IsActIf this None acts = acts ≡ []
+IsActIf this (Some answer) acts =
+    (map (λ (d : TypedAct). d.step) acts ≡ this ∷ []) × (map (λ (d : TypedAct). d.answer) acts ≡ answer ∷ [])
 
--- that deed was done, which isn't entered yet
-pub record DoesDeed {N E : Type 0} {o : Orders N} (e : Ends E) (was now : DriverThread N E o) (step : Step)
+-- that act was done, which isn't entered yet
+pub record DoesAct {N E : Type 0} {o : Orders N} (e : Ends E) (was now : DriverThread N E o) (step : Step)
     (answer : Option StepAnswer) : Type 0 where
-  pub deeds : List Deed
-  pub are : IsDeedIf step answer deeds
-  pub does : Does e was now deeds
-  pub counts : CountsOn was now deeds
+  pub acts : List TypedAct
+  pub are : IsActIf step answer acts
+  pub does : Does e was now acts
+  pub counts : CountsOn was now acts
   pub none : EntersNone was.driver now.driver
 
--- of deeds of these steps, which are some or all of one write, the first were done, all of them or not, and aren't
+-- of acts of these steps, which are some or all of one write, the first were done, all of them or not, and aren't
 -- entered yet; by them the write went on
 pub record DoesParts {N E : Type 0} {o : Orders N} (e : Ends E) (was now : DriverThread N E o) (all : List Step)
     (done : Bool) (on on_now : Written) : Type 0 where
-  pub deeds : List Deed
+  pub acts : List TypedAct
   pub left : List Step
-  pub whole : all ≡ map (λ (d : Deed). d.step) deeds ++ left
-  pub does : Does e was now deeds
-  pub counts : CountsOn was now deeds
+  pub whole : all ≡ map (λ (d : TypedAct). d.step) acts ++ left
+  pub does : Does e was now acts
+  pub counts : CountsOn was now acts
   pub none : EntersNone was.driver now.driver
-  pub moved : on_now ≡ written_by on deeds
+  pub moved : on_now ≡ written_by on acts
   pub ends : done ≡ true → left ≡ []
   pub waits : done ≡ false → 1 ≤ length left

@@ -38,7 +38,7 @@ impl Bench {
     }
 
     /// What was answered, each answer behind a blank, or that memory was refused.
-    pub fn told(self) -> Result<String, AllocError> {
+    pub fn render(self) -> Result<String, AllocError> {
         self.told.text()
     }
 

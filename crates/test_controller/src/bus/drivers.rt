@@ -5,7 +5,8 @@ use super::rig::Rig;
 use super::row_answers::RowAnswers;
 use super::words::{item_of, small};
 use sja_driver::CommandFault;
-use sja_link::{Down, ReleaseFault};
+use sja_journal::Down;
+use sja_link::ReleaseFault;
 use sja_regs::RegFault;
 use test_words::{address, byte, message_of};
 
@@ -58,7 +59,7 @@ fn unread(rig: &Rig, node: &str) -> Option<u32> {
 fn of_registers(told: &mut RowAnswers, rig: &mut Rig, name: &str, node: &str, rest: &[&str]) {
     match (name, rest) {
         ("read", addresses) => reads(told, rig, node, addresses),
-        ("write", [addr, value]) => told.done(written(rig, node, addr, value)),
+        ("write", [addr, value]) => told.done(write_register(rig, node, addr, value)),
         _ => told.made(loaded(rig, node, rest)),
     }
 }
@@ -80,7 +81,12 @@ fn read(rig: &mut Rig, node: &str, addr: &str) -> Option<Result<u8, RegFault>> {
 }
 
 /// What a write is answered.
-fn written(rig: &mut Rig, node: &str, addr: &str, value: &str) -> Option<Result<(), RegFault>> {
+fn write_register(
+    rig: &mut Rig,
+    node: &str,
+    addr: &str,
+    value: &str,
+) -> Option<Result<(), RegFault>> {
     rig.write(small(node)?, address(addr)?, byte(value)?)
 }
 

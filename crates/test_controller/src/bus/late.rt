@@ -4,7 +4,7 @@ use super::bus_start::asked;
 use super::logs::are_same_logs;
 use super::rig::Rig;
 use super::words::{number, strike_of};
-use sja_script::Strike;
+use sja_steps::Strike;
 use std::alloc::Global;
 
 /// `late 20 1/60/1/1`: whether a bus that takes a strike after so many bits leaves what one leaves that began with it.

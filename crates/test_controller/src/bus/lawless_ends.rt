@@ -1,8 +1,9 @@
 //! Bus's ends of links that do what no lawful link does, and a bus over them.
 
 use super::wired_bus::WiredBus;
-use sja_link::{BusEnd, Down, Up};
-use sja_script::FaultScript;
+use sja_journal::{Down, Up};
+use sja_link::BusEnd;
+use sja_steps::FaultScript;
 use std::alloc::Global;
 
 /// The end of a node's links that shows up to two items on the first one, and then one more again and again. It gives

@@ -1,9 +1,9 @@
 //! What is left of a bus at the end.
 
-use can_bits::Level;
 use can_frame::Message;
+use can_levels::Level;
 use sja_bus::NodeLog;
-use sja_link::{Entry, Journal, Up};
+use sja_journal::{Entry, Journal, Up};
 
 /// How many messages a journal stored, and how many it lost as overrun.
 pub fn verdicts_in(journal: &Journal) -> (u32, u32) {

@@ -6,9 +6,10 @@ use super::wired_bus::WiredBus;
 use can_frame::Message;
 use sja_bus::{NodeLog, serial_links};
 use sja_driver::CommandFault;
-use sja_link::{DequeLinks, Down, DriverEnd, ReleaseFault, Up, most_activations};
+use sja_journal::{Down, Up, most_activations};
+use sja_link::{DequeLinks, DriverEnd, ReleaseFault};
 use sja_regs::RegFault;
-use sja_script::FaultScript;
+use sja_steps::FaultScript;
 use std::alloc::Global;
 
 /// A bus with its links, its ports and its drivers, in one thread. There is no answer where a node isn't there, or the

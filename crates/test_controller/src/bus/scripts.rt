@@ -2,7 +2,7 @@
 
 use super::row_answers::RowAnswers;
 use super::words::{bit, number, script_of, small};
-use sja_script::FaultScript;
+use sja_steps::FaultScript;
 use std::alloc::Global;
 
 /// Does a call of a script.
@@ -13,7 +13,7 @@ pub fn of_script(alloc: Global, told: &mut RowAnswers, words: &[&str]) {
     match words {
         ["struck", node, bits, strikes @ ..] => {
             match (small(node), number(bits), script_of(alloc, strikes)) {
-                (Some(node), Some(bits), Some(script)) => struck(told, &script, node, bits),
+                (Some(node), Some(bits), Some(script)) => say_strikes(told, &script, node, bits),
                 _ => told.unread(),
             }
         }
@@ -32,7 +32,7 @@ pub fn of_script(alloc: Global, told: &mut RowAnswers, words: &[&str]) {
 }
 
 /// Says which of the first so many bits strike a node.
-fn struck(told: &mut RowAnswers, script: &FaultScript, node: u8, bits: u32) {
+fn say_strikes(told: &mut RowAnswers, script: &FaultScript, node: u8, bits: u32) {
     let mut any = false;
     for bit in 0..bits {
         if script.strikes(u64::from(bit), node) {

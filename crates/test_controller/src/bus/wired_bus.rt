@@ -2,7 +2,7 @@
 
 use sja_bus::{Bus, BusFault, NodeLog, SerialBoard, are_links_of};
 use sja_link::BusEnd;
-use sja_script::{FaultScript, Strike};
+use sja_steps::{FaultScript, Strike};
 use std::alloc::Global;
 
 /// More bits than any row needs to come to rest.

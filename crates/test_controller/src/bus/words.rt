@@ -1,9 +1,9 @@
 //! Strikes and items in words.
 
 use can_frame::Message;
-use can_node::Request;
-use sja_link::Up;
-use sja_script::{FaultScript, Strike};
+use can_node_rules::Request;
+use sja_journal::Up;
+use sja_steps::{FaultScript, Strike};
 use std::alloc::Global;
 use test_frames::nodes::PLAIN;
 

@@ -3,7 +3,8 @@
 use super::link::Link;
 use super::words::{push_message, push_up};
 use can_frame::Message;
-use sja_link::{BadCredit, Busy, LostWindow, ReleaseFault, Up};
+use sja_journal::Up;
+use sja_link::{BadCredit, Busy, LostWindow, ReleaseFault};
 use std::alloc::{AllocError, Global};
 use std::fmt;
 

@@ -3,7 +3,8 @@
 use super::answers::{of_ledger, push_said, push_taken};
 use super::link::Link;
 use super::words::{down_of, message_of, push_down, push_up, up_of};
-use sja_link::{Busy, Down, Verdict};
+use sja_journal::{Down, Verdict};
+use sja_link::Busy;
 use std::alloc::{AllocError, Global};
 
 /// Does a call, and writes what it answers.

@@ -1,7 +1,8 @@
 //! [`Link`]: the links of a node with both their ends in one hand, and the ledgers of one.
 
 use can_frame::{BufferView, Message};
-use sja_link::{BadCredit, Busy, Down, LostWindow, ReleaseFault, Up, Verdict};
+use sja_journal::{Down, Up, Verdict};
+use sja_link::{BadCredit, Busy, LostWindow, ReleaseFault};
 use std::alloc::{AllocError, Global};
 
 /// The links of a node with both their ends in one hand, and the ledgers of one of them. What the calls of a ledger

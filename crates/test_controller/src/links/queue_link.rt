@@ -4,9 +4,10 @@ use super::answers::push_said;
 use super::link::Link;
 use super::words::push_down;
 use can_frame::{BufferView, Message};
+use sja_journal::{Down, Up, Verdict};
 use sja_link::{
-    BadCredit, BusEnd, BusLedger, Busy, DequeLinks, Down, DriverEnd, DriverLedger, LinkId,
-    LostWindow, ReleaseFault, Up, Verdict,
+    BadCredit, BusEnd, BusLedger, Busy, DequeLinks, DriverEnd, DriverLedger, LinkId, LostWindow,
+    ReleaseFault,
 };
 use std::alloc::{AllocError, Global};
 use test_words::Returning;

@@ -4,9 +4,9 @@ use super::link::Link;
 use super::queue_link::LINK;
 use super::words::{push_down, push_up};
 use can_frame::{BufferView, Message};
+use sja_journal::{Down, Up, Verdict};
 use sja_link::{
-    BadCredit, BusEnd, BusLedger, Busy, Down, DriverEnd, DriverLedger, LostWindow, ReleaseFault,
-    Up, Verdict,
+    BadCredit, BusEnd, BusLedger, Busy, DriverEnd, DriverLedger, LostWindow, ReleaseFault,
 };
 use sja_rings::{NodeBus, NodeDriver, end_bus, end_driver, node_pair, settle};
 use std::alloc::{AllocError, Global};
@@ -64,7 +64,7 @@ fn off(ledger: &mut BusLedger, bus: &mut NodeBus) -> Option<Result<(), Busy>> {
 }
 
 /// Whether the window is there.
-fn looked(ledger: &mut DriverLedger, driver: &mut NodeDriver) -> Option<Result<(), LostWindow>> {
+fn look(ledger: &mut DriverLedger, driver: &mut NodeDriver) -> Option<Result<(), LostWindow>> {
     if driver.node() != ledger.id().node {
         return None;
     }
@@ -126,11 +126,11 @@ impl Link for Rings {
     }
 
     fn look(&mut self) -> Option<Result<(), LostWindow>> {
-        looked(&mut self.reader, &mut self.driver)
+        look(&mut self.reader, &mut self.driver)
     }
 
     fn window(&mut self) -> Option<Result<Option<Message>, LostWindow>> {
-        match looked(&mut self.reader, &mut self.driver)? {
+        match look(&mut self.reader, &mut self.driver)? {
             Ok(()) => Some(Ok(self.reader.first().map(Message::copy))),
             Err(stopped) => Some(Err(stopped)),
         }

@@ -1,8 +1,8 @@
 //! Items and messages in words.
 
 use can_frame::Message;
-use can_node::Request;
-use sja_link::{Down, Up};
+use can_node_rules::Request;
+use sja_journal::{Down, Up};
 use std::alloc::{AllocError, Global};
 use test_frames::nodes::PLAIN;
 use test_words::Bytes;

@@ -1,7 +1,7 @@
 //! [`Answer`]: what a call of a port answers.
 
 use can_frame::Message;
-use can_node::Request;
+use can_node_rules::Request;
 use sja_regs::RegFault;
 use std::fmt;
 use test_words::Bytes;

@@ -48,7 +48,7 @@ impl Bench {
     }
 
     /// What was answered, each answer behind a blank.
-    pub fn told(self) -> String {
+    pub fn render(self) -> String {
         self.text
     }
 
@@ -154,14 +154,14 @@ impl Bench {
     /// Writes at each of these addresses the value behind it.
     fn writes(&mut self, words: &[&str]) -> io::Result<()> {
         for pair in words.chunks(2) {
-            let answer = self.written(pair).unwrap_or(Answer::Unread);
+            let answer = self.write_register(pair).unwrap_or(Answer::Unread);
             self.say(&answer)?;
         }
         Ok(())
     }
 
     /// What a write of a value behind its address answers.
-    fn written(&mut self, pair: &[&str]) -> Option<Answer> {
+    fn write_register(&mut self, pair: &[&str]) -> Option<Answer> {
         let [addr, value] = pair else {
             return None;
         };

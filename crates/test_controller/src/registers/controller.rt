@@ -1,7 +1,7 @@
 //! [`Controller`]: the registers of a controller, by the calls of its port.
 
 use can_frame::Message;
-use can_node::{Config, Request};
+use can_node_rules::{Config, Request};
 use sja_regs::{BufferView, BusTurn, Orders, Port, RegFault};
 
 /// A controller's registers. Each call is that of the port; what the port's call promises stays out of what a row's

@@ -2,7 +2,7 @@
 
 use super::script::Query;
 use sja_driver::LoggedDriver;
-use sja_link::Endless;
+use sja_journal::Endless;
 use std::alloc::{AllocError, Global};
 use test_words::{AnswerText, Bytes};
 

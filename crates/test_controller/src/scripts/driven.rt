@@ -1,9 +1,10 @@
 //! A script done over the links of a driver.
 
 use sja_driver::{LoggedDriver, WorkLog};
-use sja_link::{BusEnd, DequeLinks, Down, DriverEnd, ITEMS_UP, most_activations};
+use sja_journal::{Down, ITEMS_UP, most_activations};
+use sja_link::{BusEnd, DequeLinks, DriverEnd};
 use sja_regs::Port;
-use sja_script::{Step, StepAnswer};
+use sja_steps::{Step, StepAnswer};
 use std::alloc::{AllocError, Global};
 
 /// The node of the driver.

@@ -2,10 +2,10 @@
 
 use super::driven::driven;
 use sja_driver::LoggedDriver;
-use sja_link::Down;
+use sja_journal::Down;
 use sja_regs::address::IER;
 use sja_regs::{BusTurn, Port};
-use sja_script::Step;
+use sja_steps::Step;
 use std::alloc::{AllocError, Global};
 use test_words::{byte, message_of, step_of, turn_of};
 

@@ -1,11 +1,11 @@
 //! [`Answer`]: what a call of a session answers.
 
 use sja_plan::Place;
-use sja_script::StepAnswer;
 use sja_session::{
     PlaceOutcome, PlaceRefusal, RestOutcome, SessionFault, SessionRoom, StepFault, StrikeFault,
     TurnsUsed, WatchOutcome,
 };
+use sja_steps::StepAnswer;
 use std::fmt;
 use test_words::AnswerText;
 

@@ -3,9 +3,10 @@
 use super::answer::Answer;
 use super::bench::say_asked;
 use super::many::many;
-use sja_plan::{Place, place_of_word, place_of_words};
-use sja_script::Step;
+use sja_plan::Place;
+use sja_plan_reading::{place_of_word, place_of_words};
 use sja_session::{Session, StepOutcome};
+use sja_steps::Step;
 use std::alloc::{AllocError, Global};
 use test_words::{address, byte, step_of};
 
@@ -34,7 +35,7 @@ pub fn called(session: &mut Session, words: &[&str]) -> Option<Answer> {
         "watch" | "rises" => watched(session, name, rest),
         "irq" | "answer" | "place" => of_node(session, name, rest),
         "to" => runs_to(session, rest),
-        "strike" => struck(session, rest),
+        "strike" => strike(session, rest),
         _ if rest.is_empty() => of_session(session, name),
         "mask" => masked(session, rest),
         "bits" => runs(session, rest),
@@ -132,7 +133,7 @@ fn flags_of(nodes: &[&str]) -> Option<[bool; 8]> {
 }
 
 /// Strikes a bit.
-fn struck(session: &mut Session, rest: &[&str]) -> Option<Answer> {
+fn strike(session: &mut Session, rest: &[&str]) -> Option<Answer> {
     let [node, bit] = rest else {
         return None;
     };
@@ -199,7 +200,7 @@ fn writes(
     words: &[&str],
 ) -> Result<(), AllocError> {
     for pair in words.chunks(2) {
-        say_asked(alloc, text, written(session, node, pair))?;
+        say_asked(alloc, text, write_register(session, node, pair))?;
     }
     Ok(())
 }
@@ -230,7 +231,7 @@ fn masked(session: &mut Session, rest: &[&str]) -> Option<Answer> {
 }
 
 /// What a write of a value behind its address answers.
-fn written(session: &mut Session, node: &str, pair: &[&str]) -> Option<Answer> {
+fn write_register(session: &mut Session, node: &str, pair: &[&str]) -> Option<Answer> {
     let [addr, value] = pair else {
         return None;
     };

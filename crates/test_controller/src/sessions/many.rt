@@ -4,8 +4,8 @@ use super::answer::Answer;
 use super::calls::{number, step};
 use super::receiving::received;
 use sja_regs::address::SR;
-use sja_script::{Step, StepAnswer};
 use sja_session::Session;
+use sja_steps::{Step, StepAnswer};
 
 /// When a bit is run with each call.
 #[derive(Clone, Copy, PartialEq, Eq)]

@@ -4,8 +4,8 @@ use super::answer::Answer;
 use super::calls::step;
 use super::many::is_done;
 use can_frame::Message;
-use sja_script::{Step, StepAnswer};
 use sja_session::Session;
+use sja_steps::{Step, StepAnswer};
 
 /// Whether a node that has just started receives the message that node 0 sends then, which has this number, and no
 /// other one: its window is empty before. An odd one is released, and no other one is behind it; an even one is left

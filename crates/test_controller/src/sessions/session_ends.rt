@@ -4,11 +4,11 @@ use super::bench::say;
 use sja_log::RunLog;
 use sja_plan::Plan;
 use sja_plan_text::{has_texts, plan_text};
-use sja_report::report;
-use sja_script::Step;
 use sja_serial::run_serial;
 use sja_session::Session;
+use sja_steps::Step;
 use std::alloc::{AllocError, Global};
+use text_report::report;
 
 /// Ends a session, and writes `again` where the report of its log is that of a run of its plan too, but for `end
 /// counts`.

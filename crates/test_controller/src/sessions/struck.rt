@@ -3,14 +3,15 @@
 use super::calls::{node_of, number, step};
 use super::session_ends::is_report_of;
 use sja_log::RunLog;
-use sja_plan::{Plan, read_plan};
+use sja_plan::Plan;
+use sja_plan_reading::read_plan;
 use sja_plan_text::{has_texts, plan_text};
-use sja_report::report;
-use sja_script::Step;
 use sja_serial::run_serial;
 use sja_session::Session;
+use sja_steps::Step;
 use std::alloc::{AllocError, Global};
 use test_words::message_of;
+use text_report::report;
 
 /// `alike 0 11 76`: of how many bits, from 11 to 75, a strike of node 0 just before the bit has the same report and
 /// writes the same plan as one before the first bit, and a run of the plan's document has that report too.
@@ -42,7 +43,7 @@ fn alike_in(alloc: Global, node: u8, from: u32, to: u32) -> Result<u32, AllocErr
 
 /// Whether all three reports of a strike in this bit are the same, and both plans.
 fn are_same(alloc: Global, node: u8, bit: u32) -> Result<bool, AllocError> {
-    match struck(alloc, bit, node, bit)? {
+    match strike(alloc, bit, node, bit)? {
         Some((late, document)) => {
             let both = (late.as_str(), document.as_str());
             Ok(has_same_early(alloc, node, bit, both)? && runs_again(alloc, both)?)
@@ -58,7 +59,7 @@ fn has_same_early(
     bit: u32,
     late: (&str, &str),
 ) -> Result<bool, AllocError> {
-    match struck(alloc, 0, node, bit)? {
+    match strike(alloc, 0, node, bit)? {
         Some((early, document)) => Ok((early.as_str(), document.as_str()) == late),
         None => Ok(false),
     }
@@ -81,7 +82,7 @@ fn is_report_of_run(alloc: Global, plan: &Plan, wanted: &str) -> Result<bool, Al
 
 /// The report of a session that is struck after so many bits, once it is at rest and node 1 has released what it has,
 /// and the document of its plan; none where a call isn't done or the plan has none.
-fn struck(
+fn strike(
     alloc: Global,
     after: u32,
     node: u8,

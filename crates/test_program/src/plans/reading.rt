@@ -1,6 +1,7 @@
 //! What reading a plan answers, as text.
 
-use sja_plan::{MOST_BYTES, Plan, PlanFault, read_plan};
+use sja_plan::Plan;
+use sja_plan_reading::{MOST_BYTES, PlanFault, read_plan};
 use std::alloc::{AllocError, Global};
 use std::{fmt, io};
 

@@ -1,14 +1,14 @@
 //! [`RunText`]: a text of a run.
 
 use super::row_options::RowOptions;
-use sja_candump::candump;
-use sja_frames::frames;
 use sja_log::RunLog;
-use sja_picture::picture;
 use sja_plan::Plan;
-use sja_svg::drawing;
-use sja_trace::trace;
 use std::alloc::{AllocError, Global};
+use text_candump::candump;
+use text_frames::frames;
+use text_picture::picture;
+use text_svg::drawing;
+use text_trace::trace;
 
 /// A text of a run.
 #[derive(Clone, Copy)]

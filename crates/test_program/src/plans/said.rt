@@ -1,8 +1,8 @@
 //! What is said of a plan, as text.
 
 use sja_check::{hints, mistake};
-use sja_places::{ReadFault, plan_of};
-use sja_plan::PlanFault;
+use sja_placed_strikes::{ReadFault, plan_of};
+use sja_plan_reading::PlanFault;
 use sja_serial::run_serial;
 use std::alloc::{AllocError, Global};
 use std::io;

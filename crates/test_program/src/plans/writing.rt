@@ -1,6 +1,7 @@
 //! What writing a plan answers, as text.
 
-use sja_plan::{Plan, PlanFault, read_plan};
+use sja_plan::Plan;
+use sja_plan_reading::{PlanFault, read_plan};
 use sja_plan_text::{PlanTextFault, has_texts, plan_text};
 use std::alloc::{AllocError, Global};
 use std::io;
@@ -20,11 +21,11 @@ pub(crate) fn writing(alloc: Global, document: &[u8]) -> io::Result<String> {
 
 /// What writing the plan of this document answers.
 fn outcome(alloc: Global, document: &[u8]) -> io::Result<String> {
-    let first = match written(alloc, document)? {
+    let first = match write_plan(alloc, document)? {
         Ok(first) => first,
         Err(fault) => return Ok(fault),
     };
-    let second = match written(alloc, first.as_bytes())? {
+    let second = match write_plan(alloc, first.as_bytes())? {
         Ok(second) => second,
         Err(fault) => return Ok(fault),
     };
@@ -49,7 +50,7 @@ fn shown(alloc: Global, outcome: &str, document: &str) -> io::Result<String> {
 }
 
 /// The plan of this document as it is written, or why it isn't.
-fn written(alloc: Global, document: &[u8]) -> io::Result<Result<String, String>> {
+fn write_plan(alloc: Global, document: &[u8]) -> io::Result<Result<String, String>> {
     match read_plan(alloc, document) {
         Ok(plan) => rewritten(alloc, &plan),
         Err(PlanFault::Memory) => Err(AllocError.into()),

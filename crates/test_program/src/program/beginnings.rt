@@ -27,7 +27,7 @@ pub(crate) fn of_word<T: Threads + Wait + Sync>(
         groups.add(count, judged(alloc, &tried)?)?;
         words.pop();
     }
-    groups.told()
+    groups.render()
 }
 
 /// The answers over each beginning of the input, by how many bytes it has. Where reads behind it are interrupted they
@@ -50,7 +50,7 @@ pub(crate) fn of_input<T: Threads + Wait + Sync>(
         };
         groups.add(count, text)?;
     }
-    groups.told()
+    groups.render()
 }
 
 /// The answer, and how many reads are made.

@@ -49,7 +49,7 @@ impl Groups {
     }
 
     /// All of them.
-    pub(crate) fn told(mut self) -> io::Result<String> {
+    pub(crate) fn render(mut self) -> io::Result<String> {
         self.close()?;
         Ok(self.text)
     }

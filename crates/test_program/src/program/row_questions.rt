@@ -86,7 +86,7 @@ fn over_each<T: Threads + Wait + Sync>(
         let document = given.document(alloc, filled.as_str())?;
         groups.add(number as usize, part(rt, alloc, words, &document, how)?)?;
     }
-    groups.told()
+    groups.render()
 }
 
 /// The answers to each beginning.

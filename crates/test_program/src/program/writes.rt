@@ -33,7 +33,7 @@ pub(crate) fn each_number<T: Threads + Wait + Sync>(
             groups.add(number, format!(in alloc; "{text}{of_full}{of_room}")?)?;
         }
     }
-    groups.told()
+    groups.render()
 }
 
 /// So many writes of a byte, of which the next one fails or takes nothing, and so many bytes.

@@ -2,9 +2,10 @@
 //! has changed then, and the next try is taken.
 
 use super::given::{NODE, links_with, message};
-use can_node::Request;
+use can_node_rules::Request;
 use sja_driver::{Active, CommandFault, Driver, Reset, StartFault};
-use sja_link::{BusEnd, Down, DriverEnd, ReleaseFault, Up};
+use sja_journal::{Down, Up};
+use sja_link::{BusEnd, DriverEnd, ReleaseFault};
 use sja_regs::Port;
 use sja_regs::address::{MOD, SR};
 use std::alloc::Global;

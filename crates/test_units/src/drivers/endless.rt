@@ -1,7 +1,8 @@
 //! A lawless end: each of its links shows messages without end.
 
 use can_frame::Message;
-use sja_link::{Down, DriverEnd, Up};
+use sja_journal::{Down, Up};
+use sja_link::DriverEnd;
 
 /// An end that shows a message at each get, and takes whatever is given.
 #[derive(Debug, Drop)]

@@ -2,7 +2,8 @@
 
 use can_frame::Message;
 use sja_driver::{Active, Driver, Reset};
-use sja_link::{BusEnd, DequeLinks, Down, DriverEnd};
+use sja_journal::Down;
+use sja_link::{BusEnd, DequeLinks, DriverEnd};
 use sja_regs::Port;
 use std::alloc::Global;
 use std::test::Fail;

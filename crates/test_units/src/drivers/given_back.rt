@@ -2,7 +2,8 @@
 
 use super::given::{NODE, links_for, message, started};
 use sja_driver::{Active, CommandFault, Driver, StartFault};
-use sja_link::{BusEnd, DequeLinks, Down, DriverEnd, ReleaseFault, Up};
+use sja_journal::{Down, Up};
+use sja_link::{BusEnd, DequeLinks, DriverEnd, ReleaseFault};
 use sja_regs::Port;
 use sja_regs::address::MOD;
 use std::test::Fail;

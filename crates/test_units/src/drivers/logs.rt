@@ -2,12 +2,12 @@
 
 use super::given::NODE;
 use sja_driver::{LoggedDriver, WorkLog};
-use sja_link::{Endless, KEPT, WITHOUT_END};
-use sja_script::StepAnswer;
+use sja_journal::{Endless, HISTORY_LIMIT, WITHOUT_END};
+use sja_steps::StepAnswer;
 use std::alloc::Global;
 use std::test::Fail;
 
-/// A driver whose log was made for so many steps and as many deeds, after so many steps that were done, each after as
+/// A driver whose log was made for so many steps and as many acts, after so many steps that were done, each after as
 /// many bits as steps before it.
 fn after(alloc: Global, room: u64, steps: u64) -> Result<LoggedDriver, Fail> {
     let mut driver = LoggedDriver::new(NODE, WorkLog::new(alloc, 3, room, room)?);
@@ -55,15 +55,15 @@ fn can_be_read(log: &WorkLog) -> (bool, bool, bool) {
 /// A list of a log is read where it was made for few items, whatever the others were made for.
 #[test]
 fn a_list_of_a_log_made_for_many_is_not_read(rt: HostRuntime) -> Result<(), Fail> {
-    let many = KEPT as u64 + 1;
-    for (version, steps, deeds, expected) in [
+    let many = HISTORY_LIMIT as u64 + 1;
+    for (version, steps, acts, expected) in [
         (3, 10, 10, (true, true, true)),
         (3, many, 10, (false, true, true)),
         (3, 10, many, (true, false, true)),
         (WITHOUT_END, 10, 10, (true, true, false)),
         (WITHOUT_END, many, many, (false, false, false)),
     ] {
-        let log = WorkLog::new(rt.alloc(), version, steps, deeds)?;
+        let log = WorkLog::new(rt.alloc(), version, steps, acts)?;
         assert!(rt; can_be_read(&log) == expected);
     }
     Ok(())

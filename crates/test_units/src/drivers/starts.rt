@@ -3,10 +3,11 @@
 
 use super::given::{NODE, links_for, started, stopped};
 use sja_driver::{Driver, LoggedDriver, Reset, StartFault, WorkLog};
-use sja_link::{BusEnd, DequeLinks, DriverEnd, LinkId, Up, WITHOUT_END, most_activations};
+use sja_journal::{Up, WITHOUT_END, most_activations};
+use sja_link::{BusEnd, DequeLinks, DriverEnd, LinkId};
 use sja_regs::Port;
 use sja_regs::address::{ACR0, BUFFER, MOD, RMC};
-use sja_script::{Step, StepAnswer};
+use sja_steps::{Step, StepAnswer};
 use std::alloc::Global;
 use std::test::Fail;
 

@@ -1,7 +1,7 @@
 //! The number of a link, messages by their length, and requests.
 
 use can_frame::Message;
-use can_node::Request;
+use can_node_rules::Request;
 use sja_link::LinkId;
 use std::test::Fail;
 

@@ -1,8 +1,8 @@
 //! Journals: entries of each kind come out as they were entered, and the reserved ones are counted.
 
 use super::given::{message_of, request_for};
-use can_bits::Level;
-use sja_link::{Entry, Recorder, Up};
+use can_levels::Level;
+use sja_journal::{Entry, Recorder, Up};
 use std::alloc::Global;
 use std::test::Fail;
 use test_frames::nodes::PLAIN;

@@ -1,10 +1,8 @@
 //! The node of links at both their ends, the number of a link at its ledgers, and what lies on its free places.
 
 use super::given::{LINK, message_of};
-use sja_link::{
-    BusEnd, BusLedger, DequeLinks, Down, DriverEnd, DriverLedger, LinkId, Up, WITHOUT_END,
-    most_activations,
-};
+use sja_journal::{Down, Up, WITHOUT_END, most_activations};
+use sja_link::{BusEnd, BusLedger, DequeLinks, DriverEnd, DriverLedger, LinkId};
 use std::test::Fail;
 
 #[test]

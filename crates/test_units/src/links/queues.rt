@@ -1,7 +1,8 @@
 //! The links of a node in one thread: two queues each, and one more link than there are queues.
 
 use super::given::message_of;
-use sja_link::{BusEnd, DequeLinks, Down, DriverEnd, Up};
+use sja_journal::{Down, Up};
+use sja_link::{BusEnd, DequeLinks, DriverEnd};
 use std::alloc::Global;
 use std::test::Fail;
 use test_frames::nodes::PLAIN;

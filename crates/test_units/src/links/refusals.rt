@@ -3,7 +3,8 @@
 //! Each answers well with and without memory, so that each allocation can be made to fail under it.
 
 use can_frame::OutOfMemory;
-use sja_link::{BusEnd, DequeLinks, Event, Recorder, World};
+use sja_journal::Recorder;
+use sja_link::{BusEnd, DequeLinks, Event, World};
 use test_frames::nodes::PLAIN;
 
 #[test]

@@ -15,7 +15,7 @@ const fn read_only(value: u8) -> Answers {
 }
 
 /// A register that is read as this value, and may be written.
-const fn written(value: u8) -> Answers {
+const fn writable(value: u8) -> Answers {
     (Ok(value), Ok(()))
 }
 
@@ -25,15 +25,15 @@ fn wanted(addr: u8) -> (Answers, Answers) {
     let command = (Err(RegFault::NoRegister), Err(RegFault::UseTyped));
     let limit = (Ok(0x60), Err(RegFault::ResetOnly));
     match addr {
-        0 => (written(0x01), written(0x00)),
+        0 => (writable(0x01), writable(0x00)),
         1 => (command, command),
         2 => (read_only(0x3c), read_only(0x3c)),
         3 | 11 | 12 | 14 | 15 | 29 => (read_only(0x00), read_only(0x00)),
-        4 => (written(0x00), written(0x00)),
-        13 => (written(0x60), limit),
-        16..=19 => (written(0x00), written(0x00)),
-        20..=23 => (written(0xff), written(0x00)),
-        24..=28 => (NOWHERE, written(0x00)),
+        4 => (writable(0x00), writable(0x00)),
+        13 => (writable(0x60), limit),
+        16..=19 => (writable(0x00), writable(0x00)),
+        20..=23 => (writable(0xff), writable(0x00)),
+        24..=28 => (NOWHERE, writable(0x00)),
         _ => (NOWHERE, NOWHERE),
     }
 }

@@ -1,8 +1,8 @@
 //! Journals that no bus writes: what stands before the first entry that can't come there is told, and nothing after it.
 
 use super::given::{bit, count, enter, message, on_the_bus, received};
-use can_bits::Level;
-use sja_link::{Entry, Recorder, Up};
+use can_levels::Level;
+use sja_journal::{Entry, Recorder, Up};
 use sja_replay::Replay;
 use std::alloc::Global;
 use std::test::Fail;

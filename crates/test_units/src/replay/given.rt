@@ -1,9 +1,9 @@
 //! Journals to begin with, and what is said of one bit.
 
-use can_bits::Level;
 use can_frame::Message;
-use sja_link::{Entry, Journal, Recorder, Up};
-use sja_replay::{Happening, Replay};
+use can_levels::Level;
+use sja_journal::{Entry, Journal, Recorder, Up};
+use sja_replay::{BitEvent, Replay};
 use std::alloc::Global;
 use std::test::Fail;
 use test_frames::nodes::PLAIN;
@@ -64,7 +64,7 @@ pub fn received(
 }
 
 /// What the bit of this number brought.
-pub fn happening(journal: &Journal, number: u32) -> Option<Happening> {
+pub fn bit_event(journal: &Journal, number: u32) -> Option<BitEvent> {
     let mut replay = Replay::of(journal);
     for _ in 0..number {
         replay.next()?;

@@ -2,9 +2,9 @@
 
 use super::given::{bit, on_the_bus};
 use super::receptions::reception;
-use can_bits::Level;
-use sja_link::Journal;
-use sja_replay::{Happening, Replay, ShortBit};
+use can_levels::Level;
+use sja_journal::Journal;
+use sja_replay::{BitEvent, Replay, ShortBit};
 use std::alloc::Global;
 use std::test::Fail;
 
@@ -35,7 +35,7 @@ fn in_short(journal: &Journal) -> Result<u32, Fail> {
 }
 
 /// Whether a bit in full is the bit in short, and nothing is told of it.
-fn is_told_by(short: &ShortBit, told: &Option<Happening>) -> bool {
+fn is_told_by(short: &ShortBit, told: &Option<BitEvent>) -> bool {
     let Some(told) = told else {
         return false;
     };
@@ -50,7 +50,7 @@ fn is_told_by(short: &ShortBit, told: &Option<Happening>) -> bool {
         && told.after.counters == short.counters
         && told.before.flag == short.flag
         && !told.aborted
-        && told.fate.is_none()
+        && told.reception.is_none()
         && events.received.is_none()
         && events.lost.is_none()
         && events.fault.is_none()

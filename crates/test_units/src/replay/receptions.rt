@@ -1,10 +1,10 @@
 //! A frame that is received, bit by bit.
 
-use super::given::{bit, count, enter, happening, message, on_the_bus, received};
-use can_bits::{Level, Segment};
-use can_node::Phase;
-use sja_link::{Entry, Journal, Recorder, Up};
-use sja_replay::{Fate, Happening};
+use super::given::{bit, bit_event, count, enter, message, on_the_bus, received};
+use can_levels::{Level, Segment};
+use can_node_rules::Phase;
+use sja_journal::{Entry, Journal, Recorder, Up};
+use sja_replay::{BitEvent, Reception};
 use std::alloc::Global;
 use std::test::Fail;
 use test_frames::{TWO_BYTES, TWO_BYTES_RECEIVED};
@@ -27,9 +27,9 @@ fn written_reception(alloc: Global) -> Result<Recorder, Fail> {
     Ok(journal)
 }
 
-fn told(alloc: Global, number: u32) -> Result<Happening, Fail> {
-    match happening(&reception(alloc)?, number) {
-        Some(happening) => Ok(happening),
+fn read_bit(alloc: Global, number: u32) -> Result<BitEvent, Fail> {
+    match bit_event(&reception(alloc)?, number) {
+        Some(bit_event) => Ok(bit_event),
         None => Err(Fail::from("the bit isn't told")),
     }
 }
@@ -42,14 +42,14 @@ fn each_bit_is_told(rt: HostRuntime) -> Result<(), Fail> {
 
 #[test]
 fn the_phases_before_and_after_a_bit_are_told(rt: HostRuntime) -> Result<(), Fail> {
-    let last_waiting = told(rt.alloc(), 10)?;
+    let last_waiting = read_bit(rt.alloc(), 10)?;
     assert!(rt; last_waiting.before.phase == Phase::Waiting);
     assert!(rt; last_waiting.after.phase == Phase::Idle);
-    let start = told(rt.alloc(), 11)?;
+    let start = read_bit(rt.alloc(), 11)?;
     assert!(rt; start.before.phase == Phase::Idle);
     assert!(rt; start.after.phase == Phase::Frame);
     assert!(rt; !start.after.transmits);
-    let last_of_frame = told(rt.alloc(), 72)?;
+    let last_of_frame = read_bit(rt.alloc(), 72)?;
     assert!(rt; last_of_frame.before.phase == Phase::Frame);
     assert!(rt; last_of_frame.after.phase == Phase::Intermission);
     Ok(())
@@ -60,26 +60,26 @@ fn the_phases_before_and_after_a_bit_are_told(rt: HostRuntime) -> Result<(), Fai
 /// so ends with bit 30.
 #[test]
 fn the_segment_of_a_bit_is_told(rt: HostRuntime) -> Result<(), Fail> {
-    assert!(rt; told(rt.alloc(), 11)?.before.segment.is_none());
-    assert!(rt; told(rt.alloc(), 19)?.before.segment == Some(Segment::Id28To21));
-    assert!(rt; told(rt.alloc(), 20)?.before.segment == Some(Segment::Id20To18));
-    assert!(rt; told(rt.alloc(), 23)?.before.segment == Some(Segment::RtrStandard));
-    assert!(rt; told(rt.alloc(), 28)?.before.segment == Some(Segment::LengthCode));
-    assert!(rt; told(rt.alloc(), 31)?.before.segment == Some(Segment::Data));
-    assert!(rt; told(rt.alloc(), 63)?.before.segment == Some(Segment::CheckDelimiter));
-    assert!(rt; told(rt.alloc(), 64)?.before.segment == Some(Segment::AckSlot));
-    assert!(rt; told(rt.alloc(), 72)?.before.segment == Some(Segment::EndOfFrame));
+    assert!(rt; read_bit(rt.alloc(), 11)?.before.segment.is_none());
+    assert!(rt; read_bit(rt.alloc(), 19)?.before.segment == Some(Segment::Id28To21));
+    assert!(rt; read_bit(rt.alloc(), 20)?.before.segment == Some(Segment::Id20To18));
+    assert!(rt; read_bit(rt.alloc(), 23)?.before.segment == Some(Segment::RtrStandard));
+    assert!(rt; read_bit(rt.alloc(), 28)?.before.segment == Some(Segment::DataLengthCode));
+    assert!(rt; read_bit(rt.alloc(), 31)?.before.segment == Some(Segment::Data));
+    assert!(rt; read_bit(rt.alloc(), 63)?.before.segment == Some(Segment::CrcDelimiter));
+    assert!(rt; read_bit(rt.alloc(), 64)?.before.segment == Some(Segment::AckSlot));
+    assert!(rt; read_bit(rt.alloc(), 72)?.before.segment == Some(Segment::EndOfFrame));
     Ok(())
 }
 
 #[test]
 fn the_acknowledgement_and_the_reception_are_told(rt: HostRuntime) -> Result<(), Fail> {
-    assert!(rt; told(rt.alloc(), 64)?.driven == Level::Dominant);
-    let valid = told(rt.alloc(), 71)?;
+    assert!(rt; read_bit(rt.alloc(), 64)?.driven == Level::Dominant);
+    let valid = read_bit(rt.alloc(), 71)?;
     assert!(rt; valid.bit == 71);
     assert!(rt; valid.events.received == Some(message(&TWO_BYTES)?.frame()));
-    assert!(rt; valid.fate == Some(Fate::Stored));
-    assert!(rt; told(rt.alloc(), 70)?.fate.is_none());
+    assert!(rt; valid.reception == Some(Reception::Stored));
+    assert!(rt; read_bit(rt.alloc(), 70)?.reception.is_none());
     Ok(())
 }
 
@@ -88,10 +88,10 @@ fn the_acknowledgement_and_the_reception_are_told(rt: HostRuntime) -> Result<(),
 fn a_frame_without_a_verdict_was_stopped(rt: HostRuntime) -> Result<(), Fail> {
     let mut journal = on_the_bus(rt.alloc())?;
     received(&mut journal, TWO_BYTES_RECEIVED, 0, 62, 53)?;
-    let Some(valid) = happening(&journal.into_journal()?, 71) else {
+    let Some(valid) = bit_event(&journal.into_journal()?, 71) else {
         return Err(Fail::from("the bit isn't told"));
     };
-    assert!(rt; valid.fate == Some(Fate::Stopped));
+    assert!(rt; valid.reception == Some(Reception::Stopped));
     Ok(())
 }
 

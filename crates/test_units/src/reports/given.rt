@@ -1,8 +1,8 @@
 //! Parts of logs: messages, entries of journals, activations.
 
-use can_bits::Level;
 use can_frame::Message;
-use sja_link::{Entry, Recorder, Up};
+use can_levels::Level;
+use sja_journal::{Entry, Recorder, Up};
 use sja_log::ActivationLog;
 use std::alloc::Global;
 use std::test::Fail;

@@ -2,11 +2,11 @@
 
 use super::given::{activation, enter, message, one, quiet, several, start};
 use can_frame::Message;
-use sja_link::{Entry, Journal, Recorder, Up};
+use sja_journal::{Entry, Journal, Recorder, Up};
 use sja_log::{ActivationLog, End, NodeRun, RunLog};
-use sja_report::report;
 use std::alloc::Global;
 use std::test::Fail;
+use text_report::report;
 
 /// The log of a run of one node without steps.
 fn log_of(
@@ -20,7 +20,7 @@ fn log_of(
 }
 
 /// The report of such a run.
-fn told(
+fn render(
     alloc: Global,
     end: End,
     journal: Journal,
@@ -109,7 +109,7 @@ fn both(alloc: Global, long: &Message) -> Result<Vec<ActivationLog>, Fail> {
 fn overrun_told(alloc: Global) -> Result<String, Fail> {
     let long = long_message()?;
     let activations = both(alloc, &long)?;
-    told(alloc, End::Bits, overrun(alloc, &long)?, activations)
+    render(alloc, End::Bits, overrun(alloc, &long)?, activations)
 }
 
 /// Overrun messages come last, and take no bytes.
@@ -138,7 +138,7 @@ fn unstarted(alloc: Global) -> Result<Journal, Fail> {
 fn not_begun(alloc: Global) -> Result<String, Fail> {
     let released = several(alloc, &Message::default(), 1)?;
     let activations = one(alloc, activation(released, Vec::new(alloc)))?;
-    told(alloc, End::Turns, unstarted(alloc)?, activations)
+    render(alloc, End::Turns, unstarted(alloc)?, activations)
 }
 
 /// An activation whose start the journal hasn't is told as one without entries.

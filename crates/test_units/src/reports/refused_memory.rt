@@ -4,10 +4,10 @@
 
 use super::given::{enter, quiet, start};
 use can_frame::{Message, OutOfMemory};
-use sja_link::{Entry, Journal, Recorder};
+use sja_journal::{Entry, Journal, Recorder};
 use sja_log::{End, NoLog, NodeRun, RunLog};
-use sja_report::report;
 use std::alloc::Global;
+use text_report::report;
 
 const WHOLE: &str = "sja version 1 bits 20 end turns
 node 0 tec 0 rec 0 steps 0

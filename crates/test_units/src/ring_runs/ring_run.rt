@@ -4,10 +4,10 @@ use super::message_fates::MessageFates;
 use super::worker::Worker;
 use can_frame::{Message, OutOfMemory};
 use sja_bus::{Bus, BusFault, NodeLog, SerialBoard, are_links_of};
-use sja_link::{ACTIVATIONS, Entry, Up};
+use sja_journal::{ACTIVATIONS, Entry, Up};
 use sja_plan::{Plan, Turn};
 use sja_rings::{NodeBus, node_pair};
-use sja_script::FaultScript;
+use sja_steps::FaultScript;
 use std::alloc::Global;
 use std::test::Fail;
 
@@ -123,14 +123,14 @@ impl RingRun {
     }
 
     /// What became of the messages of this activation of a node, once all is done.
-    pub fn told(self, alloc: Global, node: u8, activation: u64) -> Result<MessageFates, Fail> {
+    pub fn collect(self, alloc: Global, node: u8, activation: u64) -> Result<MessageFates, Fail> {
         let RingRun { bus, workers, .. } = self;
         let mut workers = workers;
         let place = usize::from(node);
         let Some(worker) = workers.get_mut(place) else {
             return Err("no such node")?;
         };
-        let mut told = worker.told(alloc, activation)?;
+        let mut told = worker.collect(alloc, activation)?;
         let logs = bus.finish()?;
         let Some(log) = logs.get(place) else {
             return Err("no such node")?;

@@ -3,7 +3,8 @@
 use super::message_fates::MessageFates;
 use super::ring_run::RingRun;
 use can_frame::Message;
-use sja_plan::{Plan, read_plan};
+use sja_plan::Plan;
+use sja_plan_reading::read_plan;
 use std::alloc::Global;
 use std::test::Fail;
 use test_frames::runs::{RECEIVER_STRUCK, TRANSMITTER_STRUCK};
@@ -12,7 +13,7 @@ use test_frames::runs::{RECEIVER_STRUCK, TRANSMITTER_STRUCK};
 fn told_of(alloc: Global, plan: &Plan, activation: u64) -> Result<(u32, MessageFates), Fail> {
     let mut run = RingRun::new(alloc, plan)?;
     let bits = run.run(plan)?;
-    Ok((bits, run.told(alloc, 1, activation)?))
+    Ok((bits, run.collect(alloc, 1, activation)?))
 }
 
 /// The plan that a text is.

@@ -2,10 +2,11 @@
 
 use super::message_fates::MessageFates;
 use sja_driver::{LoggedDriver, WorkLog};
-use sja_link::{Down, DriverEnd};
+use sja_journal::Down;
+use sja_link::DriverEnd;
 use sja_regs::Port;
 use sja_rings::NodeDriver;
-use sja_script::Step;
+use sja_steps::Step;
 use std::alloc::Global;
 use std::test::Fail;
 
@@ -79,7 +80,7 @@ impl Worker {
     }
 
     /// What its log and its links tell of this activation.
-    pub fn told(&mut self, alloc: Global, activation: u64) -> Result<MessageFates, Fail> {
+    pub fn collect(&mut self, alloc: Global, activation: u64) -> Result<MessageFates, Fail> {
         let mut told = MessageFates::new(alloc);
         for release in self.driver.log().released()? {
             if release.activation == activation {

@@ -2,7 +2,7 @@
 
 use crate::links::given::{LINK, message_of};
 use can_frame::OutOfMemory;
-use sja_link::{Down, Up};
+use sja_journal::{Down, Up};
 use sja_rings::{RingBus, RingDriver, ring_pair};
 use std::alloc::Global;
 use std::test::Fail;

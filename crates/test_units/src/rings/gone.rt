@@ -3,7 +3,8 @@
 
 use super::given::Rings;
 use crate::links::given::LINK;
-use sja_link::{Down, LinkId, Up};
+use sja_journal::{Down, Up};
+use sja_link::LinkId;
 use sja_rings::{EndedBus, EndedDriver, MissingNote, end_bus, end_driver, settle};
 use std::alloc::Global;
 use std::test::Fail;
@@ -33,32 +34,11 @@ fn both_ends_have_the_number_of_the_link(rt: HostRuntime) -> Result<(), Fail> {
     Ok(())
 }
 
-#[test]
-fn an_end_that_is_left_alone_has_no_note(rt: HostRuntime) -> Result<(), Fail> {
-    assert!(rt; !bus_alone(rt.alloc())?.has_note());
-    assert!(rt; !driver_alone(rt.alloc())?.has_note());
-    Ok(())
-}
-
-#[test]
-fn an_end_with_its_other_end_has_a_note(rt: HostRuntime) -> Result<(), Fail> {
-    let Rings { bus, driver } = Rings::new(rt.alloc())?;
-    assert!(rt; end_bus(bus).has_note());
-    drop(driver);
-    let Rings { bus, driver } = Rings::new(rt.alloc())?;
-    assert!(rt; end_driver(driver).has_note());
-    drop(bus);
-    Ok(())
-}
-
 /// It is whether a note is there that is asked first: without one the two ends may be of any links.
 #[test]
 fn without_a_note_nothing_is_settled(rt: HostRuntime) -> Result<(), Fail> {
     let bus = bus_alone(rt.alloc())?;
     let driver = driver_alone(rt.alloc())?;
-    if bus.has_note() || driver.has_note() {
-        return Err("a note of a ring whose other end is gone".into());
-    }
     assert!(rt; settle(bus, driver) == Err(MissingNote));
     Ok(())
 }

@@ -4,7 +4,8 @@
 
 use super::given::Rings;
 use can_frame::OutOfMemory;
-use sja_link::{BusEnd, Down, DriverEnd};
+use sja_journal::Down;
+use sja_link::{BusEnd, DriverEnd};
 use sja_rings::node_pair;
 
 #[test]

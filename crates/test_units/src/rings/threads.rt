@@ -3,7 +3,7 @@
 
 use super::given::Rings;
 use can_frame::Message;
-use sja_link::{Down, Up};
+use sja_journal::{Down, Up};
 use sja_rings::{RingBus, RingDriver, end_bus, end_driver, settle};
 use std::test::Fail;
 use std::thread::{join, yield_now};

@@ -4,11 +4,11 @@ use super::calls::{bits, ended, read, run_of, session_of, step, write};
 use sja_log::RunLog;
 use sja_plan::Plan;
 use sja_regs::address::{BUFFER, CMR, IER, IR, MOD, SR};
-use sja_report::report;
-use sja_script::Step;
 use sja_session::{Session, StepOutcome};
+use sja_steps::Step;
 use std::alloc::Global;
 use std::test::Fail;
+use text_report::report;
 
 /// Node 0 sends the message 02 24 60 11 22 by addresses alone.
 fn send(session: &mut Session) -> Result<(), Fail> {

@@ -2,8 +2,8 @@
 
 use super::calls::{has, has_none, read, session_of, step, write};
 use sja_regs::address::{CMR, MOD};
-use sja_script::{Step, StepAnswer};
 use sja_session::{Session, StepOutcome};
+use sja_steps::{Step, StepAnswer};
 use std::test::Fail;
 
 /// The last answer is that of the last step that is done; one that waits has none, nor has a node that isn't there.

@@ -3,9 +3,9 @@
 
 use sja_log::RunLog;
 use sja_plan::Plan;
-use sja_script::{Step, StepAnswer};
 use sja_serial::run_serial;
 use sja_session::{Session, StepOutcome};
+use sja_steps::{Step, StepAnswer};
 use std::alloc::Global;
 use std::test::Fail;
 

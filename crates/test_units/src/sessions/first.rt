@@ -2,12 +2,12 @@
 
 use can_frame::Message;
 use sja_log::RunLog;
-use sja_report::report;
-use sja_script::Step;
 use sja_session::Session;
+use sja_steps::Step;
 use std::alloc::Global;
 use std::test::Fail;
 use test_frames::TWO_BYTES;
+use text_report::report;
 
 /// Its report: node 0 is idle again long before the 100 bits are over.
 const REPORT: &str = "sja version 1 bits 100 end turns

@@ -9,7 +9,7 @@ fn session_of(alloc: Global) -> Option<Session> {
 }
 
 /// How many bits a strike struck, or why none.
-fn struck(session: &mut Session) -> Result<usize, StrikeFault> {
+fn strike(session: &mut Session) -> Result<usize, StrikeFault> {
     session.strike(1, 50)?;
     Ok(1)
 }
@@ -34,7 +34,7 @@ fn refused_memory_strikes_no_bit(rt: HostRuntime) {
     let Some(mut session) = session_of(rt.alloc()) else {
         return;
     };
-    let taken = match struck(&mut session) {
+    let taken = match strike(&mut session) {
         Ok(taken) => taken,
         Err(fault) => {
             assert!(rt; fault == StrikeFault::Memory);

@@ -1,6 +1,6 @@
 //! Sweeps of plans that are given as text.
 
-use sja_plan::read_plan;
+use sja_plan_reading::read_plan;
 use sja_sweep::{SweepFault, SweepTexts, Sweeping, sweep, sweep_jobs};
 use std::alloc::{AllocError, AllocGlobal, Global};
 use std::test::Fail;

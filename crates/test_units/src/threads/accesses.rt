@@ -36,7 +36,7 @@ steps = [
 ]
 ";
 
-/// Reset mode is left with LOM, then entered, and left with STM: a write of MOD is one deed or two.
+/// Reset mode is left with LOM, then entered, and left with STM: a write of MOD is one act or two.
 const MODES: &str = "version = 3
 bits = 100
 [[node]]
@@ -78,7 +78,7 @@ fn kept_registers_are_read_back(rt: HostRuntime) -> Result<(), Fail> {
 
 /// Each gate holds each step once.
 #[test]
-fn a_write_of_the_mode_is_up_to_two_deeds(rt: HostRuntime) -> Result<(), Fail> {
+fn a_write_of_the_mode_is_up_to_two_acts(rt: HostRuntime) -> Result<(), Fail> {
     let mut gates = Vec::new(rt.alloc());
     gates.push(HoldsOnce { last: 7 })?;
     let log = run(&rt, rt.alloc(), MODES, gates)?;

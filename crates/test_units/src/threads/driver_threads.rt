@@ -4,13 +4,12 @@ use super::gates::{Meeting, Open};
 use sja_driver::WorkLog;
 use sja_link::DriverEnd;
 use sja_log::{End, RunFault, RunLog};
-use sja_plan::{Plan, read_plan};
-use sja_report::put_answer;
+use sja_plan::Plan;
+use sja_plan_reading::read_plan;
 use sja_rings::{NodeBus, NodeDriver, node_pair};
-use sja_script::{Done, Step};
+use sja_steps::{Step, StepRecord};
 use sja_threads::{
-    DeedsOfNode, Gate, Handover, LockedPort, PortLists, TurnsOfNode, port_of_node, run_threads,
-    work,
+    ActsOfNode, Gate, Handover, LockedPort, PortLists, TurnsOfNode, port_of_node, run_threads, work,
 };
 use std::alloc::Global;
 use std::marker::Brand;
@@ -18,6 +17,7 @@ use std::sync::atomic::AtomicU64;
 use std::sync::{Arc, Mutex, Wait};
 use std::test::Fail;
 use std::thread::Threads;
+use text_report::put_answer;
 
 /// A driver starts, waits for a message, and stops.
 pub const WAITS: [Step; 3] = [Step::Start, Step::Await(1), Step::Stop];
@@ -30,11 +30,11 @@ pub fn both_ends(alloc: Global) -> Result<(NodeBus, NodeDriver), Fail> {
     Ok(node_pair(alloc, 0)?)
 }
 
-/// The port of node 0 in version 1, the list of the turns that it is told, and that of its driver's deeds there.
-pub fn one_port() -> (LockedPort<Brand>, TurnsOfNode<Brand>, DeedsOfNode<Brand>) {
+/// The port of node 0 in version 1, the list of the turns that it is told, and that of its driver's acts there.
+pub fn one_port() -> (LockedPort<Brand>, TurnsOfNode<Brand>, ActsOfNode<Brand>) {
     let (lists, done) = PortLists::new(0);
     let (port, told) = port_of_node::<Brand>(0, 1, lists);
-    (port, told, DeedsOfNode::new(0, 1, done))
+    (port, told, ActsOfNode::new(0, 1, done))
 }
 
 /// The part of node 0's driver at this end, with a log of its own.
@@ -43,7 +43,7 @@ pub fn drive<G: Gate>(
     alloc: Global,
     end: NodeDriver,
     port: &Mutex<LockedPort<Brand>>,
-    done: DeedsOfNode<Brand>,
+    done: ActsOfNode<Brand>,
     steps: &[Step],
     gate: G,
 ) -> Result<Handover<NodeDriver>, Fail> {
@@ -60,7 +60,7 @@ pub fn answers(alloc: Global, worked: &Handover<NodeDriver>, expected: &str) -> 
 }
 
 /// Fails where these aren't the answers of these steps.
-pub fn are_answers(alloc: Global, done: &[Done], expected: &str) -> Result<(), Fail> {
+pub fn are_answers(alloc: Global, done: &[StepRecord], expected: &str) -> Result<(), Fail> {
     let mut text = String::new(alloc);
     for step in done {
         put_step(&mut text, step)?;
@@ -72,7 +72,7 @@ pub fn are_answers(alloc: Global, done: &[Done], expected: &str) -> Result<(), F
 }
 
 /// Adds what a step answers.
-fn put_step(text: &mut String, step: &Done) -> Result<(), Fail> {
+fn put_step(text: &mut String, step: &StepRecord) -> Result<(), Fail> {
     text.push(',')?;
     put_answer(text, &step.answer)?;
     Ok(())

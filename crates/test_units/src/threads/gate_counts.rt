@@ -2,7 +2,7 @@
 
 use super::driver_threads::{open_gates, run_of};
 use sja_log::RunFault;
-use sja_plan::read_plan;
+use sja_plan_reading::read_plan;
 use std::alloc::Global;
 use std::sync::Wait;
 use std::test::Fail;

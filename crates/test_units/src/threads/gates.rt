@@ -1,6 +1,7 @@
 //! The gates that the tests' drivers ask.
 
-use sja_threads::{Gate, Pass};
+use sja_thread_promises::Pass;
+use sja_threads::Gate;
 use std::alloc::Global;
 use std::sync::Arc;
 use std::sync::atomic::{AtomicU64, Ordering};

@@ -4,11 +4,14 @@
 use super::driver_threads::are_answers;
 use can_frame::Message;
 use sja_driver::address::RBSA;
-use sja_driver::{KeptBytes, LoggedDriver, WorkLog, WriteSteps, is_reset, steps_of_write};
-use sja_link::{BusEnd, DequeLinks, Down, DriverEnd, most_activations};
+use sja_driver::{
+    LoggedDriver, UnmodelledRegisters, WorkLog, WriteSteps, is_reset, steps_of_write,
+};
+use sja_journal::{Down, most_activations};
+use sja_link::{BusEnd, DequeLinks, DriverEnd};
 use sja_regs::Port;
 use sja_regs::address::{BUFFER, CMR, MOD, RMC, SR};
-use sja_script::{Done, Step, StepAnswer};
+use sja_steps::{Step, StepAnswer, StepRecord};
 use std::alloc::Global;
 use std::test::Fail;
 use test_words::Returning;
@@ -19,12 +22,12 @@ const NODE: u8 = 1;
 /// The version of its port.
 const VERSION: u8 = 2;
 
-/// A driver without a bus: the answers of its deeds, its kept registers, those of its port, and its links.
+/// A driver without a bus: the answers of its acts, its kept registers, those of its port, and its links.
 #[derive(Drop)]
 struct Writer {
     driver: LoggedDriver,
-    done: Vec<Done>,
-    kept: KeptBytes,
+    done: Vec<StepRecord>,
+    kept: UnmodelledRegisters,
     port: Port,
     links: Returning,
 }
@@ -36,13 +39,13 @@ impl Writer {
         Ok(Writer {
             driver: LoggedDriver::new(NODE, WorkLog::new(alloc, VERSION, 0, 100)?),
             done: Vec::new(alloc),
-            kept: KeptBytes::new(),
+            kept: UnmodelledRegisters::new(),
             port: Port::new(VERSION),
             links: links_with_message(alloc, taken)?,
         })
     }
 
-    /// Tries a deed, and gives its answer; none where it isn't done.
+    /// Tries an act, and gives its answer; none where it isn't done.
     fn tries(&mut self, step: &Step) -> Result<Option<StepAnswer>, Fail> {
         if DriverEnd::node(&self.links) != NODE {
             return Err("not the driver's links")?;
@@ -51,7 +54,7 @@ impl Writer {
             return Ok(None);
         };
         self.kept.answered(&answer);
-        self.done.push(Done {
+        self.done.push(StepRecord {
             answer: answer.copy(),
             bits: 0,
         })?;
@@ -100,7 +103,7 @@ impl Writer {
         Ok(false)
     }
 
-    /// Fails where these aren't the answers of the deeds that were done.
+    /// Fails where these aren't the answers of the acts that were done.
     fn answered(&self, alloc: Global, expected: &str) -> Result<(), Fail> {
         are_answers(alloc, self.done.as_slice(), expected)
     }

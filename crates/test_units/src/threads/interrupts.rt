@@ -5,7 +5,7 @@ use super::part::Part;
 use super::passing::{HANDED, released};
 use can_frame::Message;
 use sja_regs::address::{IER, IR};
-use sja_script::Step;
+use sja_steps::Step;
 use std::test::Fail;
 
 /// A driver that waits looks again until a message has come.

@@ -2,9 +2,9 @@
 
 use super::driver_threads::{ended, two_gates};
 use sja_log::{End, RunLog};
-use sja_report::report;
 use std::alloc::Global;
 use std::test::Fail;
+use text_report::report;
 
 /// Both nodes send, and then wait for the other's frame.
 const EXCHANGING: &str = "version = 1

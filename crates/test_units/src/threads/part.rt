@@ -2,7 +2,8 @@
 
 use can_frame::Message;
 use sja_bus::Board;
-use sja_link::{BusEnd, Down, Up};
+use sja_journal::{Down, Up};
+use sja_link::BusEnd;
 use sja_rings::NodeBus;
 use sja_threads::{LockedPort, TurnBoard, TurnsOfNode};
 use std::alloc::Global;

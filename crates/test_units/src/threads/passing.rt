@@ -5,8 +5,8 @@ use super::gates::Open;
 use super::part::Part;
 use can_frame::Message;
 use sja_rings::NodeDriver;
-use sja_script::Step;
-use sja_threads::{DeedsOfNode, Handover, LockedPort, TurnsOfNode};
+use sja_steps::Step;
+use sja_threads::{ActsOfNode, Handover, LockedPort, TurnsOfNode};
 use std::alloc::Global;
 use std::marker::Brand;
 use std::sync::{Mutex, Wait};
@@ -22,7 +22,7 @@ fn both<R: Threads + Wait + Sync>(
     alloc: Global,
     ports: &[Mutex<LockedPort<Brand>>],
     told: TurnsOfNode<Brand>,
-    done: DeedsOfNode<Brand>,
+    done: ActsOfNode<Brand>,
     steps: &[Step],
     part: Part,
 ) -> Result<(Handover<NodeDriver>, bool), Fail> {

@@ -2,8 +2,8 @@
 
 use super::driver_threads::{GAVE_UP, WAITS, answers, both_ends, drive, one_port};
 use super::gates::{HoldsOnce, Open, Patience};
-use sja_script::Step;
-use sja_threads::{DeedsOfNode, Gate, LockedPort};
+use sja_steps::Step;
+use sja_threads::{ActsOfNode, Gate, LockedPort};
 use std::alloc::Global;
 use std::marker::Brand;
 use std::sync::{Mutex, Wait};
@@ -18,7 +18,7 @@ fn activation_of<G: Gate>(
     rt: &impl Wait,
     alloc: Global,
     port: &Mutex<LockedPort<Brand>>,
-    done: DeedsOfNode<Brand>,
+    done: ActsOfNode<Brand>,
     steps: &[Step],
     gate: G,
     expected: &str,

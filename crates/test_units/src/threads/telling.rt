@@ -3,7 +3,7 @@
 use super::part::Part;
 use super::passing::{HANDED, handed_back};
 use can_frame::Message;
-use sja_script::Step;
+use sja_steps::Step;
 use std::test::Fail;
 
 /// The abort stands once the port was told that bits have run, and from then on each step counts these.

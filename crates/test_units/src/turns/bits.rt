@@ -1,7 +1,8 @@
 //! Turns of the bus.
 
-use sja_log::script_of;
-use sja_plan::{Plan, read_plan};
+use sja_plan::Plan;
+use sja_plan_reading::read_plan;
+use sja_promises::script_of;
 use sja_serial::SerialRun;
 use std::alloc::Global;
 use std::test::Fail;

@@ -1,9 +1,10 @@
 //! A run that is made for more than its lists keep goes as one that keeps all.
 
-use sja_log::script_of;
-use sja_plan::{Plan, read_plan};
-use sja_script::{Done, StepAnswer};
+use sja_plan::Plan;
+use sja_plan_reading::read_plan;
+use sja_promises::script_of;
 use sja_serial::SerialRun;
+use sja_steps::{StepAnswer, StepRecord};
 use std::alloc::Global;
 use std::test::Fail;
 
@@ -55,7 +56,7 @@ fn done_count(run: &SerialRun, node: usize) -> u64 {
 
 /// The answer of the last step of a driver, and after how many bits it was.
 fn last_of(run: &SerialRun, node: usize) -> Option<(StepAnswer, u64)> {
-    let last: &Done = run.driver(node).log().last_done()?;
+    let last: &StepRecord = run.driver(node).log().last_done()?;
     Some((last.answer.copy(), last.bits))
 }
 

@@ -1,7 +1,7 @@
 //! How many starts a node has in a run in one thread.
 
-use sja_script::{FaultScript, Refusal, Step, StepAnswer};
 use sja_serial::SerialRun;
+use sja_steps::{FaultScript, Refusal, Step, StepAnswer};
 use std::alloc::Global;
 use std::test::Fail;
 

@@ -1,15 +1,15 @@
 //! A run of five bits, whole.
 
 use Level::{Dominant, Recessive};
-use can_bits::Level;
 use can_frame::Message;
-use sja_link::{Entry, Journal, Recorder, Up};
+use can_levels::Level;
+use sja_journal::{Entry, Journal, Recorder, Up};
 use sja_log::{End, NodeRun, RunLog};
-use sja_wave::wave;
 use std::alloc::Global;
 use std::test::Fail;
 use test_frames::nodes::PLAIN;
 use test_frames::runs::DECLARED;
+use text_wave::wave;
 
 /// The wave of the two journals below after the declarations of the bus and of node 0.
 ///

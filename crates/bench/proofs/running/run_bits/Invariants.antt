@@ -1,5 +1,5 @@
 use Rattle.std.proofs.Common.{◌≡◌, ◌≤◌, length}
-use Rattle.sja_link.specs.Links.{AreEnds, HaveLinks}
+use Rattle.sja_journal.specs.Links.{AreEnds, HaveLinks}
 use Rattle.bench.proofs.running.run_bits.Given as goal
 
 -- links and ports are those of the bus's nodes, which stay as many

@@ -1,7 +1,7 @@
 use Rattle.std.proofs.Common.{take, subst}
 use Rattle.std.proofs.lemmas.List.{take_more, take_all}
-use Rattle.can_bits.specs.declared.level.Level.TheVariants.{Dominant}
-use Rattle.can_bits.proofs.Checks.{Divided, Crc_of, Crc-unique}
+use Rattle.can_levels.specs.declared.level.Level.TheVariants.{Dominant}
+use Rattle.can_levels.proofs.Checks.{Divided, Crc_of, Crc-unique}
 use Rattle.can_bits.proofs.crc.crc_of.Goals as goal
 
 pub loop-level-preserved : goal.loop-level-preserved

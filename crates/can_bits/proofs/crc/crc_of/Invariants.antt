@@ -1,5 +1,5 @@
 use Rattle.std.proofs.Common.{take}
-use Rattle.can_bits.proofs.Checks.{Divided}
+use Rattle.can_levels.proofs.Checks.{Divided}
 use Rattle.can_bits.proofs.crc.crc_of.Given as goal
 
 -- the levels so far and the register are a multiple of the generator

@@ -2,7 +2,7 @@ use Rattle.std.proofs.Common.{◌≡◌, ◌∙◌, ◌*◌, ◌%◌, ◌^◌, s
 use Rattle.std.specs.Prelude.{bit_xor}
 use Rattle.std.specs.Int.Bits.{xor_lt}
 use Rattle.can_bits.specs.declared.crc.TheConstants.{GENERATOR}
-use Rattle.can_bits.proofs.Checks.{Divided, Divided-same, Divided-other}
+use Rattle.can_levels.proofs.Checks.{Divided, Divided-same, Divided-other}
 use Rattle.can_bits.proofs.crc.crc_step.Goals as goal
 
 pub returns-then-crc-from-clause-divides : goal.returns-then-crc-from-clause-divides

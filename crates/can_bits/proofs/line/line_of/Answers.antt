@@ -1,6 +1,6 @@
 use Rattle.std.proofs.Common.{◌≡◌, ◌+◌, length, ap, arith, rules}
 use Rattle.std.proofs.lemmas.List.{length-append}
-use Rattle.can_bits.specs.declared.level.Level.{Level}
+use Rattle.can_levels.specs.declared.level.Level.{Level}
 use Rattle.can_bits.proofs.line.line_of.Goals as goal
 
 -- `whole` proves nothing here: by it a wrong body is refused with values

@@ -1,8 +1,8 @@
 use Rattle.std.proofs.Common.{List, sym, subst}
-use Rattle.can_bits.specs.declared.level.Level.{Level}
-use Rattle.can_bits.specs.Reading.{IsReceived}
-use Rattle.can_bits.proofs.LineLaws.{sent_received}
-use Rattle.can_bits.proofs.Whole.Verdicts.{judged_by, frame_only, fault_only}
+use Rattle.can_levels.specs.declared.level.Level.{Level}
+use Rattle.can_levels.specs.Reading.{IsReceived}
+use Rattle.can_levels.proofs.LineLaws.{sent_received}
+use Rattle.can_levels.proofs.Whole.Verdicts.{judged_by, frame_only, fault_only}
 use Rattle.can_bits.proofs.reading.read_line.Goals as goal
 
 pub returns-clause-frame_only : goal.returns-clause-frame_only

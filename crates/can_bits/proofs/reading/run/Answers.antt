@@ -1,12 +1,12 @@
 use Rattle.std.proofs.Common.{List, take, drop, suc, sym, subst, rules}
 use Rattle.std.proofs.lemmas.List.{take_more, take_all}
-use Rattle.can_bits.specs.declared.level.Level.{Level}
-use Rattle.can_bits.specs.declared.level.Level.TheVariants.{Dominant}
-use Rattle.can_bits.specs.Reading.{IsFaultless, IsFirstFault}
+use Rattle.can_levels.specs.declared.level.Level.{Level}
+use Rattle.can_levels.specs.declared.level.Level.TheVariants.{Dominant}
+use Rattle.can_levels.specs.Reading.{IsFaultless, IsFirstFault}
 use Rattle.can_bits.specs.Shifts.{StandsFor}
 use Rattle.std.proofs.Math.Seq.{split_at}
-use Rattle.can_bits.proofs.Readables.{faultless_readable}
-use Rattle.can_bits.proofs.Whole.Faultless.{faultless_nothing}
+use Rattle.can_levels.proofs.Readables.{faultless_readable}
+use Rattle.can_levels.proofs.Whole.Faultless.{faultless_nothing}
 use Rattle.can_bits.proofs.Whole.FirstFault.{faultless_open, faultless_received}
 use Rattle.can_bits.proofs.reading.run.Goals as goal
 

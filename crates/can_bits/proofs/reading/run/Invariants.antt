@@ -1,5 +1,5 @@
 use Rattle.std.proofs.Common.{take}
-use Rattle.can_bits.specs.Reading.{IsFaultless}
+use Rattle.can_levels.specs.Reading.{IsFaultless}
 use Rattle.can_bits.specs.Shifts.{StandsFor}
 use Rattle.can_bits.proofs.reading.run.Given as goal
 

@@ -1,7 +1,7 @@
 use Rattle.std.proofs.Common.{◌∙◌, ◌++◌, length, ap, sym, arith}
-use Rattle.can_bits.specs.Digits.{bits}
-use Rattle.can_bits.specs.Body.{sent_body}
-use Rattle.can_bits.proofs.Values.{bits-value}
+use Rattle.can_levels.specs.Digits.{bits}
+use Rattle.can_levels.specs.Body.{sent_body}
+use Rattle.can_levels.proofs.Values.{bits-value}
 use Rattle.can_bits.proofs.Packing.Bodies.{sent_most}
 use Rattle.can_bits.proofs.sent_body.body_of.Goals as goal
 

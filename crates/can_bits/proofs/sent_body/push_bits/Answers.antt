@@ -1,9 +1,9 @@
 use Rattle.std.proofs.Common.{◌≡◌, ◌-◌, ◌/◌, ◌%◌, ◌^◌, ◌==◌, ◌++◌, ◌∷◌, [], ℕ}
 use Rattle.std.proofs.Common.{length, sym, ap, ◌∙◌, arith, append_assoc, lit<}
 use Rattle.std.proofs.lemmas.List.{append-nil, length-append}
-use Rattle.can_bits.specs.declared.level.Level.{Level}
-use Rattle.can_bits.specs.Digits.{bits, digit, level_of}
-use Rattle.can_bits.proofs.Values.{bits-more, bits-nothing, length-bits, level-digit}
+use Rattle.can_levels.specs.declared.level.Level.{Level}
+use Rattle.can_levels.specs.Digits.{bits, digit, level_of}
+use Rattle.can_levels.proofs.Values.{bits-more, bits-nothing, length-bits, level-digit}
 use Rattle.can_bits.proofs.sent_body.push_bits.Goals as goal
 
 -- which digit a level is

@@ -1,5 +1,5 @@
 use Rattle.std.proofs.Common.{◌≡◌, ◌-◌, ◌/◌, ◌^◌, ◌++◌}
-use Rattle.can_bits.specs.Digits.{bits}
+use Rattle.can_levels.specs.Digits.{bits}
 use Rattle.can_bits.proofs.sent_body.push_bits.Given as goal
 
 -- the first k digits were pushed

@@ -1,8 +1,8 @@
 use Rattle.std.proofs.Common.{◌≡◌, ◌≢◌, ◌≤◌, ◌<◌, List, ◌++◌, ◌∷◌, [], take, get_or, subst, arith, rules}
 use Rattle.std.proofs.lemmas.List.{take_more, take_all}
-use Rattle.can_bits.specs.declared.level.Level.{Level}
-use Rattle.can_bits.specs.declared.level.Level.TheVariants.{Dominant}
-use Rattle.can_bits.proofs.Stuffs.{Stands, Stands-same, Stands-other, Stands-stuffed, Stands-closed}
+use Rattle.can_levels.specs.declared.level.Level.{Level}
+use Rattle.can_levels.specs.declared.level.Level.TheVariants.{Dominant}
+use Rattle.can_levels.proofs.Stuffs.{Stands, Stands-same, Stands-other, Stands-stuffed, Stands-closed}
 use Rattle.can_bits.proofs.stuffing.push_stuffed.Goals.{then-eq, else-eq, then-run-eq-RUN, else-run-eq-RUN}
 use Rattle.can_bits.proofs.stuffing.push_stuffed.Goals as goal
 

@@ -1,5 +1,5 @@
 use Rattle.std.proofs.Common.{◌≡◌, ◌<◌, take, vec_capacity}
-use Rattle.can_bits.proofs.Stuffs.{Stands}
+use Rattle.can_levels.proofs.Stuffs.{Stands}
 use Rattle.can_bits.proofs.stuffing.push_stuffed.Given as goal
 
 -- the levels so far are stuffed, and the last run is counted

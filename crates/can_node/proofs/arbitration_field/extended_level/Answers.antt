@@ -1,8 +1,8 @@
 use Rattle.std.proofs.Common.{sym, arith, inl, inr}
 use Rattle.std.proofs.lemmas.Bool.{cases_eq}
 use Rattle.std.proofs.lemmas.Option.{slice_get_past}
-use Rattle.can_node.proofs.Contending.FieldLevels.{extended_field, extended_high, extended_rest}
-use Rattle.can_node.proofs.Contending.FieldLevels.{extended_low, extended_last, length_extended}
+use Rattle.can_node_rules.proofs.Contending.FieldLevels.{extended_field, extended_high, extended_rest}
+use Rattle.can_node_rules.proofs.Contending.FieldLevels.{extended_low, extended_last, length_extended}
 use Rattle.can_node.proofs.arbitration_field.extended_level.Goals as goal
 
 pub returns-in-0-to-10 : goal.returns-in-0-to-10

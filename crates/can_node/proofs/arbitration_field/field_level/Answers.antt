@@ -1,6 +1,6 @@
 use Rattle.std.proofs.Common.{ap, sym, ◌∙◌}
 use Rattle.std.specs.List.{slice_get}
-use Rattle.can_node.proofs.Contending.FieldLevels.{field_by, field_is}
+use Rattle.can_node_rules.proofs.Contending.FieldLevels.{field_by, field_is}
 use Rattle.can_node.proofs.arbitration_field.field_level.Goals as goal
 
 pub returns-then-ext : goal.returns-then-ext

@@ -1,6 +1,6 @@
 use Rattle.std.proofs.Common.{sym, arith}
 use Rattle.std.proofs.lemmas.Option.{slice_get_past}
-use Rattle.can_node.proofs.Contending.FieldLevels.{standard_field, standard_id, standard_last, length_standard}
+use Rattle.can_node_rules.proofs.Contending.FieldLevels.{standard_field, standard_id, standard_last, length_standard}
 use Rattle.can_node.proofs.arbitration_field.standard_level.Goals as goal
 
 pub returns-in-0-to-10 : goal.returns-in-0-to-10

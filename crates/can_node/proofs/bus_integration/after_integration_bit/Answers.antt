@@ -1,6 +1,6 @@
 use Rattle.std.proofs.Common.{refl, arith}
-use Rattle.can_node.proofs.Waiting.Integrations.{integration_breaks, integration_goes}
-use Rattle.can_node.proofs.Waiting.Integrations.{integration_again, integration_ends}
+use Rattle.can_node_rules.proofs.Waiting.Integrations.{integration_breaks, integration_goes}
+use Rattle.can_node_rules.proofs.Waiting.Integrations.{integration_again, integration_ends}
 use Rattle.can_node.proofs.bus_integration.after_integration_bit.Goals as goal
 
 pub returns-in-Dominant : goal.returns-in-Dominant

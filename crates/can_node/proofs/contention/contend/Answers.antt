@@ -5,8 +5,8 @@ use Rattle.std.proofs.lemmas.List.{take_more}
 use Rattle.std.proofs.lemmas.Option.{slice_get_read}
 use Rattle.lemmas.proofs.Related.{related_push}
 use Rattle.can_frame.specs.Frame.{FrameValue}
-use Rattle.can_node.specs.Contending.{Fares}
-use Rattle.can_node.proofs.Contending.Winning.{fares_by}
+use Rattle.can_node_rules.specs.Contending.{Fares}
+use Rattle.can_node_rules.proofs.Contending.Winning.{fares_by}
 use Rattle.can_node.proofs.contention.contend.Goals as goal
 
 pub loop-frame-preserved : goal.loop-frame-preserved

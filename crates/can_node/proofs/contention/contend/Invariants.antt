@@ -1,6 +1,6 @@
 use Rattle.std.proofs.Common.{◌≡◌, ◌≤◌, take, length, vec_capacity, vec_len}
 use Rattle.std.specs.List.{AllZip}
-use Rattle.can_node.specs.Contending.{Fares}
+use Rattle.can_node_rules.specs.Contending.{Fares}
 use Rattle.can_node.proofs.contention.contend.Given as goal
 
 -- the answers so far

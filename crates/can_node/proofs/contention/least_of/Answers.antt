@@ -4,8 +4,8 @@ use Rattle.std.specs.Option.{is_some}
 use Rattle.std.proofs.lemmas.List.{take_all}
 use Rattle.std.proofs.lemmas.Option.{slice_get_read, get_or_from_slice_get}
 use Rattle.can_frame.specs.Frame.{FrameValue}
-use Rattle.can_node.specs.Contending.{IsLeast}
-use Rattle.can_node.proofs.Contending.Winning.{stays_least, next_least}
+use Rattle.can_node_rules.specs.Contending.{IsLeast}
+use Rattle.can_node_rules.proofs.Contending.Winning.{stays_least, next_least}
 use Rattle.can_node.proofs.contention.least_of.Goals as goal
 use Rattle.can_node.proofs.contention.least_of.Goals.{then-is_some, else-is_some}
 

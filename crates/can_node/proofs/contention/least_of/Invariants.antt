@@ -1,7 +1,7 @@
 use Rattle.std.proofs.Common.{◌≡◌, ◌<◌, length, take, Some}
 use Rattle.std.specs.List.{slice_get}
 use Rattle.can_frame.specs.Frame.{FrameValue}
-use Rattle.can_node.specs.Contending.{IsLeast}
+use Rattle.can_node_rules.specs.Contending.{IsLeast}
 use Rattle.can_node.proofs.contention.least_of.Given as goal
 
 -- the least of the frames so far

@@ -1,12 +1,12 @@
 use Rattle.std.proofs.Common.{◌≡◌, ◌≢◌, true, false, Option, Some, None, refl, sym, ◌∙◌, arith, add-one}
 use Rattle.std.specs.Option.{option_eq}
 use Rattle.std.proofs.lemmas.Bool.{not-true, not-false, iff_false}
-use Rattle.can_bits.specs.declared.level.Level.{Level}
-use Rattle.can_bits.specs.declared.level.Level.TheVariants.{Dominant, Recessive}
-use Rattle.can_bits.specs.contracts.level.LevelPartialEq.TheImpl.{eq-value}
-use Rattle.can_node.specs.Contending.{arbitration_field}
-use Rattle.can_node.proofs.Contending.FieldLevels.{length_field}
-use Rattle.can_node.proofs.Contending.LostFields.{same_more, loses_nowhere, loses_not_within}
+use Rattle.can_levels.specs.declared.level.Level.{Level}
+use Rattle.can_levels.specs.declared.level.Level.TheVariants.{Dominant, Recessive}
+use Rattle.can_levels.specs.contracts.level.LevelPartialEq.TheImpl.{eq-value}
+use Rattle.can_node_rules.specs.Contending.{arbitration_field}
+use Rattle.can_node_rules.proofs.Contending.FieldLevels.{length_field}
+use Rattle.can_node_rules.proofs.Contending.LostFields.{same_more, loses_nowhere, loses_not_within}
 use Rattle.can_node.proofs.contention.place_lost.Goals as goal
 
 -- what the comparison of two levels says

@@ -1,5 +1,5 @@
 use Rattle.std.proofs.Common.{◌≡◌, take}
-use Rattle.can_node.specs.Contending.{arbitration_field}
+use Rattle.can_node_rules.specs.Contending.{arbitration_field}
 use Rattle.can_node.proofs.contention.place_lost.Given as goal
 
 -- the fields are the same so far

@@ -1,6 +1,6 @@
 use Rattle.std.proofs.Common.{refl, arith}
-use Rattle.can_node.proofs.Waiting.Delimiters.{dominant_after_flag, delimiter_ends}
-use Rattle.can_node.proofs.Waiting.Delimiters.{delimiter_overloads, delimiter_breaks}
+use Rattle.can_node_rules.proofs.Waiting.Delimiters.{dominant_after_flag, delimiter_ends}
+use Rattle.can_node_rules.proofs.Waiting.Delimiters.{delimiter_overloads, delimiter_breaks}
 use Rattle.can_node.proofs.delimiter.after_delimiter_bit.Goals as goal
 
 pub returns-then-recessive-eq0 : goal.returns-then-recessive-eq0

@@ -1,7 +1,7 @@
 use Rattle.std.proofs.Common.{◌≡◌, ◌+◌, sym, arith, ◌∙◌}
-use Rattle.can_node.specs.Context.{interframe_count}
-use Rattle.can_node.proofs.OneCut.InterframeSpaces.{interframe_owed, interframe_short}
-use Rattle.can_node.proofs.Waiting.InterframeSpaces.{interframe_ends, interframe_breaks, interframe_sof}
+use Rattle.can_node_rules.specs.Context.{interframe_count}
+use Rattle.can_node_rules.proofs.OneCut.InterframeSpaces.{interframe_owed, interframe_short}
+use Rattle.can_node_rules.proofs.Waiting.InterframeSpaces.{interframe_ends, interframe_breaks, interframe_sof}
 use Rattle.can_node.proofs.interframe_space.after_interframe_bit.Goals.{then-owed, else-owed}
 use Rattle.can_node.proofs.interframe_space.after_interframe_bit.Goals as goal
 

@@ -1,13 +1,13 @@
 use Rattle.std.proofs.Common.{◌++◌, ◌∷◌, [], Option, refl, sym, subst, ◌∙◌}
 use Rattle.can_frame.specs.Frame.{FrameValue}
-use Rattle.can_bits.specs.declared.shift_fault.ShiftFault.{ShiftFault}
-use Rattle.can_bits.specs.Streaming.{ShowsFrame}
-use Rattle.can_bits.specs.Shifts.{JudgesAt}
-use Rattle.can_node.specs.Bits.{Bit, seen_of}
-use Rattle.can_node.specs.Inside.Stages.{frame_bits}
-use Rattle.can_node.proofs.Reception.Completing.{lost_if}
-use Rattle.can_node.proofs.Reception.ReceiverBits.{kept_if, readable_if, receiving_readable}
-use Rattle.can_node.proofs.Reception.ReceiverBits.{lost_row, wrong_row, received_row, goes_on}
+use Rattle.can_levels.specs.declared.shift_fault.ShiftFault.{ShiftFault}
+use Rattle.can_levels.specs.Streaming.{ShowsFrame}
+use Rattle.can_levels.specs.Judgements.{JudgesAt}
+use Rattle.can_node_rules.specs.Bits.{Bit, seen_of}
+use Rattle.can_node_rules.specs.UnfinishedPieces.{frame_bits}
+use Rattle.can_node_rules.proofs.Reception.Completing.{lost_if}
+use Rattle.can_node_rules.proofs.Reception.ReceiverBits.{kept_if, readable_if, receiving_readable}
+use Rattle.can_node_rules.proofs.Reception.ReceiverBits.{lost_row, wrong_row, received_row, goes_on}
 use Rattle.can_node.proofs.receive.receive.Goals as goal
 
 pub returns-then-is_lost-clause-turn : goal.returns-then-is_lost-clause-turn

@@ -1,8 +1,8 @@
 use Rattle.std.proofs.Common.{◌∷◌, [], ◌++◌, refl, sym, ◌∙◌}
-use Rattle.can_node.specs.Bits.{seen_of}
-use Rattle.can_node.specs.Inside.Stages.{frame_bits}
+use Rattle.can_node_rules.specs.Bits.{seen_of}
+use Rattle.can_node_rules.specs.UnfinishedPieces.{frame_bits}
 use Rattle.can_node.proofs.Machine.FrameTurns.{transmitting_readable}
-use Rattle.can_node.proofs.Transmission.OwnBits.{own_bit_by}
+use Rattle.can_node_rules.proofs.Transmission.OwnBits.{own_bit_by}
 use Rattle.can_node.proofs.Transmission.TransmitterBits.{transmits_fault, transmits_sent, transmits_on}
 use Rattle.can_node.proofs.transmit.transmit.Goals as goal
 

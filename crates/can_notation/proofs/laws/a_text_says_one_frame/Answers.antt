@@ -3,7 +3,7 @@ use Rattle.can_frame.specs.Frame.{FrameValue, IsFrame}
 use Rattle.can_frame.proofs.FrameLemmas.{same_frame}
 use Rattle.can_notation.specs.Text.{rest_text}
 use Rattle.can_notation.specs.Faults.{behind_hash}
-use Rattle.can_notation.specs.Inside.Rest.{IsRest}
+use Rattle.can_notation.specs.Rest.{IsRest}
 use Rattle.can_notation.proofs.IdentifierLemmas.{fits_digits, identifier_text-injective}
 use Rattle.can_notation.proofs.RestLemmas.{rest-injective}
 use Rattle.can_notation.proofs.HashLemmas.{parts}

@@ -1,7 +1,7 @@
 use Rattle.std.proofs.Common.{◌≡◌, take}
-use Rattle.sja_wire.specs.Wire.{wired}
+use Rattle.can_levels.specs.BusLevel.{wired}
 use Rattle.sja_bus.specs.Inside.Rows.{Done, driven_by}
-use Rattle.sja_bus.specs.Inside.RunningOn.{SeatIdle}
+use Rattle.sja_bus.specs.Inside.RunningOn.{BusNodeIdle}
 use Rattle.sja_bus.specs.Inside.Underway.{IsUnderway}
 use Rattle.sja_bus.proofs.all_nodes.sample_all.Given as goal
 
@@ -9,9 +9,9 @@ use Rattle.sja_bus.proofs.all_nodes.sample_all.Given as goal
 abbrev pub invariant-loop-k : goal.invariant-loop-k
 invariant-loop-k g l = record {
   row : IsUnderway g.E.BusEnd.same g.E.BusEnd.stands g.B.Board.ports g.B.Board.told g.B.Board.kept l.struck l.level
-      l.initial.seats l.initial.links l.initial.board l.k l.seats l.initial.links l.initial.board;
+      l.initial.bus_nodes l.initial.links l.initial.board l.k l.bus_nodes l.initial.links l.initial.board;
   links : l.links ≡ l.initial.links;
   board : l.board ≡ l.initial.board;
-  idle : Done (SeatIdle l.struck l.level) l.k l.initial.seats l.seats;
-  level : l.next ≡ wired (driven_by (take l.k l.seats));
+  idle : Done (BusNodeIdle l.struck l.level) l.k l.initial.bus_nodes l.bus_nodes;
+  level : l.next ≡ wired (driven_by (take l.k l.bus_nodes));
 }

@@ -1,16 +1,16 @@
 use Rattle.std.proofs.Common.{◌≡◌, ℕ, ◌<◌, false, length, rules, sym, ap, subst, ◌∙◌, inl, inr}
 use Rattle.lemmas.proofs.Numbers.{earlier_or_last}
 use Rattle.sja_link.specs.BusLedgers.{link_of}
-use Rattle.sja_bus.specs.declared.seat.Seat.{Seat}
+use Rattle.sja_bus.specs.declared.bus_node.BusNode.{BusNode}
 use Rattle.sja_bus.proofs.bits.may_run_untaken.Goals as goal
 
 pub loop-k-preserved : goal.loop-k-preserved
 loop-k-preserved g c =
-    let k = c.loop-k.k in let seat = c.index-seats-k.result in
-    let few : k < length c.args.seats.now = search rules in
+    let k = c.loop-k.k in let bus_node = c.index-bus_nodes-k.result in
+    let few : k < length c.args.bus_nodes.now = search rules in
     let node : c.number.result ≡ k =
-    c.number.ensures ∙ ap (λ (x : Seat). (link_of x.ledger).node) c.index-seats-k.is
-    ∙ (c.requires.ready k seat few).own in
+    c.number.ensures ∙ ap (λ (x : BusNode). (link_of x.ledger).node) c.index-bus_nodes-k.is
+    ∙ (c.requires.ready k bus_node few).own in
     let O : ℕ → Type 0 = λ m. g.B.Board.orders_are c.args.board.now m c.orders.result in
     let asked : O k = subst O node c.orders.ensures.orders in
     let F : ℕ → Type 0 = λ m. g.B.Board.facts c.args.board.now m in

@@ -1,22 +1,22 @@
 use Rattle.std.proofs.Common.{◌≡◌, ℕ, ◌+◌, ◌-◌, ◌<◌, ◌≤◌, false, true, List, length, rules, arith, refl, sym, ap, ◌∙◌}
 use Rattle.std.proofs.Common.{subst, inr}
-use Rattle.sja_script.specs.Striking.{Strikes}
+use Rattle.sja_steps.specs.Striking.{Strikes}
 use Rattle.std.proofs.lemmas.Slice.Zip.{AllZip-long as each_length}
 use Rattle.lemmas.proofs.Related.{each_refl, each_trans}
-use Rattle.sja_wire.specs.Wire.{wired}
-use Rattle.sja_wire.specs.Reasons.{room_for}
+use Rattle.can_levels.specs.BusLevel.{wired}
+use Rattle.sja_bus_rules.specs.Reasons.{room_for}
 use Rattle.sja_bus.specs.UntilTold.HasBitsMore.{none}
-use Rattle.sja_bus.specs.declared.seat.Seat.{Seat}
+use Rattle.sja_bus.specs.declared.bus_node.BusNode.{BusNode}
 use Rattle.sja_bus.specs.Inside.Refusing.{AreFree}
 use Rattle.sja_bus.specs.Inside.Rows.{AreTold, IsBus, driven_by}
 use Rattle.sja_bus.specs.UntilTold.{WorksUntold}
 use Rattle.sja_bus.specs.Inside.RunningOn.{moment_of, AnyBit, RowsRun, SomeTold}
-use Rattle.sja_bus.proofs.AllNodes.Rows.{seated_on}
+use Rattle.sja_bus.proofs.AllNodes.Rows.{stay_on_bus}
 use Rattle.sja_bus.proofs.AllNodes.RunningOn.{passes, none_still, others_now, others_still}
 use Rattle.sja_bus.proofs.AllNodes.Many.{links_kept}
 use Rattle.sja_bus.proofs.AllNodes.Begins.{begun_bits, begun_turned}
 use Rattle.sja_bus.proofs.AllNodes.BitAfterBit.{facts_of_bit, none_yet, bits_on, stops_on}
-use Rattle.sja_bus.proofs.AllNodes.UntilTold.{seats_then, works_untold}
+use Rattle.sja_bus.proofs.AllNodes.UntilTold.{bus_nodes_then, works_untold}
 use Rattle.sja_bus.proofs.OneReader.Ending.{ends_full, ends_untold, full_first, full_on}
 use Rattle.sja_bus.proofs.OneReader.QuietRows.{free_after, have_room_after, none_run}
 use Rattle.sja_bus.proofs.OneReader.QuietRows.{rooms_after, rows_on, told_after}
@@ -25,11 +25,12 @@ use Rattle.sja_bus.proofs.bits.untaken_bits.Goals.{After-quiet_for-calm, In-Ok}
 use Rattle.sja_bus.proofs.bits.untaken_bits.Goals as goal
 
 -- what holds of the port of each node held before that bit, and does after it
-facts : (g : _) (c : In-Ok g) → (k : ℕ) → k < length c.loop-run.seats → g.B.Board.facts c.sample_all.new.board k
+facts : (g : _) (c : In-Ok g) → (k : ℕ) → k < length c.loop-run.bus_nodes → g.B.Board.facts c.sample_all.new.board k
 facts g c =
-    let B = g.B.Board in let same = c.loop-run.auto.seats in let before = c.loop-run.invariant.board in
-    let ports = c.requires.seated.ports in let p = ap B.ports before in
-    facts_of_bit B g.met.B.Board.facts_go_on c.none.result c.loop-run.level c.loop-run.seats c.sample_all.new.seats
+    let B = g.B.Board in let same = c.loop-run.auto.bus_nodes in let before = c.loop-run.invariant.board in
+    let ports = c.requires.on_bus.ports in let p = ap B.ports before in
+    facts_of_bit B g.met.B.Board.facts_go_on c.none.result c.loop-run.level c.loop-run.bus_nodes
+    c.sample_all.new.bus_nodes
     c.loop-run.board c.sample_all.new.board (omega (arith, ports, same, p)) c.sample_all.ensures.board
     c.in-Ok.ensures.turns
     (λ k few. let F : _ → Type 0 = λ x. B.facts x k in
@@ -37,12 +38,12 @@ facts g c =
 
 -- the bits so far, and one more that went well
 runs_more : (g : _) (c : In-Ok g) → RowsRun g.E.BusEnd g.B.Board c.args.to_rest c.args.struck.now.script c.args.from
-    c.args.most c.args.seats.now c.sample_all.new.seats c.args.links.now c.sample_all.new.links c.args.board.now
+    c.args.most c.args.bus_nodes.now c.sample_all.new.bus_nodes c.args.links.now c.sample_all.new.links c.args.board.now
     c.sample_all.new.board (c.loop-run.run + 1)
 runs_more g c =
     let E = g.E.BusEnd in let B = g.B.Board in let inv = c.loop-run.invariant in let did = c.in-Ok.ensures in
     let script = c.args.struck.now.script in let from = c.args.from in let run = c.loop-run.run in
-    let was = c.loop-run.seats in let now = c.sample_all.new.seats in
+    let was = c.loop-run.bus_nodes in let now = c.sample_all.new.bus_nodes in
     let a = c.loop-run.board in let z = c.sample_all.new.board in
     let goes : c.goes_on.result ≡ true = search rules in
     let within : run < c.quiet_for-calm.result = search rules in
@@ -50,36 +51,40 @@ runs_more g c =
     let early : run < c.args.most = omega (arith, within, count, all) in
     let calm : (node : ℕ) → node < 8 → Strikes script (from + run) node → ⊥ =
     λ node. c.quiet_for-calm.ensures.quiet (from + run) node (omega arith) (omega (arith, within)) in
-    let pass = passes B.orders_are (B.told a z) (B.kept a z) script (from + run) (length c.args.seats.now) c.none.result
-    c.loop-run.level c.args.board.now a was now c.requires.seated.few c.loop-run.auto.seats c.sample_all.auto.seats
+    let pass = passes B.orders_are (B.told a z) (B.kept a z) script (from + run) (length c.args.bus_nodes.now)
+    c.none.result
+    c.loop-run.level c.args.board.now a was now c.requires.on_bus.few c.loop-run.auto.bus_nodes
+    c.sample_all.auto.bus_nodes
     inv.board c.requires.may.orders c.none.ensures calm inv.level did.turns did.ready inv.bus in
     let next = pass.bus (from + (run + 1)) (omega arith) in record {
       bus = next;
       rooms = λ n h. c.sample_all.ensures.rooms n (inv.rooms n h);
       unstruck = none_more script from run 1 inv.unstruck (none_now script from run calm);
       begun = λ starts before. begun_turned starts (B.told a z) (B.kept a z) c.none.result c.loop-run.level was now
-          c.sample_all.auto.seats did.turns (begun_bits starts c.args.seats.now was c.loop-run.auto.seats inv.more
+          c.sample_all.auto.bus_nodes did.turns (begun_bits starts c.args.bus_nodes.now was c.loop-run.auto.bus_nodes
+          inv.more
           before);
       bits = λ starts steps left before enough.
-          let begun = moment_of script starts steps from left c.args.seats.now c.args.links.now c.args.board.now in
+          let begun = moment_of script starts steps from left c.args.bus_nodes.now c.args.links.now c.args.board.now in
           bits_on E B (WorksUntold c.args.to_rest begun) begun script starts steps from run c.args.most left
           c.none.result was
-          now c.loop-run.links c.sample_all.new.links a z early enough c.sample_all.auto.seats pass.few pass.at pass.row
+          now c.loop-run.links c.sample_all.new.links a z early enough c.sample_all.auto.bus_nodes pass.few pass.at
+          pass.row
           c.sample_all.ensures.sames c.sample_all.ensures.board did.goes
           (begun_turned starts (B.told a z) (B.kept a z) c.none.result c.loop-run.level was now
-          c.sample_all.auto.seats did.turns
-          (begun_bits starts c.args.seats.now was c.loop-run.auto.seats inv.more before))
+          c.sample_all.auto.bus_nodes did.turns
+          (begun_bits starts c.args.bus_nodes.now was c.loop-run.auto.bus_nodes inv.more before))
           inv.bus next (facts g c)
-          (works_untold c.args.to_rest script starts steps from (from + run) left (left - run) c.args.seats.now was
+          (works_untold c.args.to_rest script starts steps from (from + run) left (left - run) c.args.bus_nodes.now was
           c.args.links.now c.loop-run.links c.args.board.now a inv.bus.ready (c.goes_on.ensures.works goes) inv.board
-          c.loop-run.auto.seats inv.more) (inv.bits starts steps left before enough);
+          c.loop-run.auto.bus_nodes inv.more) (inv.bits starts steps left before enough);
     }
 
 pub loop-run-init : goal.loop-run-init
 loop-run-init g c =
     let E = g.E.BusEnd in let B = g.B.Board in let script = c.args.struck.now.script in
     let at : c.args.from ≡ c.args.from + 0 = omega arith in
-    let P : ℕ → Type 0 = λ n. IsBus script n c.args.seats.now in record {
+    let P : ℕ → Type 0 = λ n. IsBus script n c.args.bus_nodes.now in record {
       level = c.level_of-level.ensures;
       board = refl;
       within = omega arith;
@@ -91,20 +96,22 @@ loop-run-init g c =
       unstruck = λ i node low few strikes. absurd (omega (arith, low));
       free = λ k s here. let room = c.room_of-fit.ensures.free k s here in let few = c.quiet_for-calm.ensures.most in
           omega (arith, room, few);
-      used = full_first c.args.most c.room_of-fit.result c.args.seats.now c.room_of-fit.ensures.least;
+      used = full_first c.args.most c.room_of-fit.result c.args.bus_nodes.now c.room_of-fit.ensures.least;
       more = λ k s here. none;
       bits = λ starts steps left before enough. none_yet (AnyBit E B) (WorksUntold c.args.to_rest
-          (moment_of script starts steps c.args.from left c.args.seats.now c.args.links.now c.args.board.now)) script
+          (moment_of script starts steps c.args.from left c.args.bus_nodes.now c.args.links.now c.args.board.now))
+          script
           starts steps
-          c.args.from left c.args.seats.now c.args.links.now c.args.board.now;
+          c.args.from left c.args.bus_nodes.now c.args.links.now c.args.board.now;
     }
 
 pub sample_all-requires : goal.sample_all-requires
 sample_all-requires g c =
     let inv = c.loop-run.invariant in let ports = g.B.Board.ports in record {
-      seated = seated_on g.E.BusEnd.node g.E.BusEnd.same g.met.E.BusEnd.same_node c.args.seats.now c.loop-run.seats
-          c.args.links.now c.loop-run.links (ports c.args.board.now) (ports c.loop-run.board) c.loop-run.auto.seats
-          inv.sames (ap ports inv.board) inv.bus.ready c.requires.seated;
+      on_bus = stay_on_bus g.E.BusEnd.node g.E.BusEnd.same g.met.E.BusEnd.same_node c.args.bus_nodes.now
+          c.loop-run.bus_nodes
+          c.args.links.now c.loop-run.links (ports c.args.board.now) (ports c.loop-run.board) c.loop-run.auto.bus_nodes
+          inv.sames (ap ports inv.board) inv.bus.ready c.requires.on_bus;
       told = inv.told;
       free = λ k s here.
           let run : c.loop-run.run < c.quiet_for-calm.result = search rules in let room = inv.free k s here in
@@ -116,7 +123,7 @@ returns-then-end-clause-keeps g c = record {
   sames = each_trans g.E.BusEnd.same g.met.E.BusEnd.same_trans c.args.links.now c.loop-run.links
       c.sample_all.new.links c.loop-run.invariant.sames c.sample_all.ensures.sames;
   others = others_now g.B.Board.ports g.B.Board.kept c.args.board.now c.loop-run.board c.sample_all.new.board
-      (length c.args.seats.now) (length c.loop-run.seats) c.loop-run.invariant.board c.loop-run.auto.seats
+      (length c.args.bus_nodes.now) (length c.loop-run.bus_nodes) c.loop-run.invariant.board c.loop-run.auto.bus_nodes
       c.sample_all.ensures.board;
   rooms = λ n h. c.sample_all.ensures.rooms n (c.loop-run.invariant.rooms n h);
 }
@@ -126,7 +133,7 @@ returns-in-Err-clause-keeps g c = record {
   sames = each_trans g.E.BusEnd.same g.met.E.BusEnd.same_trans c.args.links.now c.loop-run.links
       c.sample_all.new.links c.loop-run.invariant.sames c.sample_all.ensures.sames;
   others = others_now g.B.Board.ports g.B.Board.kept c.args.board.now c.loop-run.board c.sample_all.new.board
-      (length c.args.seats.now) (length c.loop-run.seats) c.loop-run.invariant.board c.loop-run.auto.seats
+      (length c.args.bus_nodes.now) (length c.loop-run.bus_nodes) c.loop-run.invariant.board c.loop-run.auto.bus_nodes
       c.sample_all.ensures.board;
   rooms = λ n h. c.sample_all.ensures.rooms n (c.loop-run.invariant.rooms n h);
 }
@@ -135,7 +142,7 @@ pub returns-after-loop-run-clause-keeps : goal.returns-after-loop-run-clause-kee
 returns-after-loop-run-clause-keeps g c = record {
   sames = c.loop-run.invariant.sames;
   others = others_still g.B.Board.ports g.B.Board.kept g.met.B.Board.kept_refl c.args.board.now c.loop-run.board
-      (length c.args.seats.now) c.loop-run.invariant.board;
+      (length c.args.bus_nodes.now) c.loop-run.invariant.board;
   rooms = c.loop-run.invariant.rooms;
 }
 
@@ -143,17 +150,17 @@ pub returns-else-goes_on-clause-keeps : goal.returns-else-goes_on-clause-keeps
 returns-else-goes_on-clause-keeps g c = record {
   sames = c.loop-run.invariant.sames;
   others = others_still g.B.Board.ports g.B.Board.kept g.met.B.Board.kept_refl c.args.board.now c.loop-run.board
-      (length c.args.seats.now) c.loop-run.invariant.board;
+      (length c.args.bus_nodes.now) c.loop-run.invariant.board;
   rooms = c.loop-run.invariant.rooms;
 }
 
 -- what is asked of a run of bits holds after the bit before it
-told_now : (g : _) (c : In-Ok g) → AreTold c.sample_all.new.seats
-told_now g c = λ k s few. (c.in-Ok.ensures.turns k s (let count = c.sample_all.auto.seats in
+told_now : (g : _) (c : In-Ok g) → AreTold c.sample_all.new.bus_nodes
+told_now g c = λ k s few. (c.in-Ok.ensures.turns k s (let count = c.sample_all.auto.bus_nodes in
     omega (arith, few, count))).told
 
 free_now : (g : _) (c : In-Ok g) → c.in-Ok.end.told ≡ false →
-    AreFree (c.quiet_for-calm.result - (c.loop-run.run + 1)) c.sample_all.new.seats
+    AreFree (c.quiet_for-calm.result - (c.loop-run.run + 1)) c.sample_all.new.bus_nodes
 free_now g c untold =
     let within : c.loop-run.run < c.quiet_for-calm.result = search rules in
     (c.in-Ok.ensures.untold untold).free (c.quiet_for-calm.result - (c.loop-run.run + 1))
@@ -167,8 +174,8 @@ run_together-together-requires g c =
 
 pub level_after-level-requires : goal.level_after-level-requires
 level_after-level-requires g c = λ zero.
-    let P : List Seat → Type 0 = λ l. c.in-Ok.end.level ≡ wired (driven_by l) in
-    subst P (sym (none_run c.args.to_rest c.sample_all.new.seats c.run_together-together.new.seats
+    let P : List BusNode → Type 0 = λ l. c.in-Ok.end.level ≡ wired (driven_by l) in
+    subst P (sym (none_run c.args.to_rest c.sample_all.new.bus_nodes c.run_together-together.new.bus_nodes
     c.run_together-together.result c.run_together-together.ensures.rows zero)) c.in-Ok.ensures.level
 
 pub loop-run-preserved : goal.loop-run-preserved
@@ -179,19 +186,19 @@ loop-run-preserved g c =
     let calm = c.quiet_for-calm.result in let fit = c.room_of-fit.result in let more = runs_more g at in
     let within : run < calm = search rules in
     let untold : c.in-Ok.end.told ≡ false = c.if-end.false in
-    let one = c.sample_all.new.seats in let now = c.run_together-together.new.seats in
+    let one = c.sample_all.new.bus_nodes in let now = c.run_together-together.new.bus_nodes in
     let n = c.run_together-together.result in let rows = c.run_together-together.ensures.rows in
     let stay = rooms_after c.args.to_rest one n now rows in
     let few = c.run_together-together.ensures.few in
     let count = c.quiet_for-calm.ensures.most in let all = c.room_of-fit.ensures.most in
-    let same = c.loop-run.auto.seats in let size = c.sample_all.auto.seats in
+    let same = c.loop-run.auto.bus_nodes in let size = c.sample_all.auto.bus_nodes in
     let none_told = c.in-Ok.ensures.untold untold in let still = none_told.still ∙ inv.board in
     let unstruck : (i node : ℕ) → i < n → node < 8 → Strikes script (from + (run + 1 + i)) node → ⊥ =
     λ i node low. c.quiet_for-calm.ensures.quiet (from + (run + 1 + i)) node (omega arith)
     (omega (arith, within, low, few)) in
-    let begun = seats_then c.args.seats.now c.loop-run.seats one same inv.more none_told.bits in
+    let begun = bus_nodes_then c.args.bus_nodes.now c.loop-run.bus_nodes one same inv.more none_told.bits in
     let far = rows_on E B g.met.E.BusEnd.same_refl g.met.B.Board.kept_refl c.args.to_rest script from c.args.most
-    c.args.seats.now c.args.links.now c.args.board.now c.requires.seated.few
+    c.args.bus_nodes.now c.args.links.now c.args.board.now c.requires.on_bus.few
     c.sample_all.new.links c.sample_all.new.board still c.requires.may.orders
     (λ k low. facts g at k (omega (arith, low, same))) (run + 1) one n now
     (omega (arith, within, few, count, all)) unstruck rows
@@ -207,7 +214,8 @@ loop-run-preserved g c =
           inv.sames c.sample_all.ensures.sames;
       rooms = λ r h. have_room_after one now n stay r (c.sample_all.ensures.rooms r (inv.rooms r h));
       free = subst F rest (free_after one now n (calm - (run + 1)) stay (free_now g at untold));
-      used = full_on c.none.result c.loop-run.level c.args.to_rest c.loop-run.seats one n now c.args.most fit run size
+      used = full_on c.none.result c.loop-run.level c.args.to_rest c.loop-run.bus_nodes one n now c.args.most fit run
+          size
           c.in-Ok.ensures.turns c.sample_all.ensures.rooms rows inv.used;
       fresh = λ zero. absurd (omega (arith, zero));
       unstruck = none_more script from (run + 1) n more.unstruck unstruck;
@@ -219,33 +227,35 @@ pub returns-in-Err-clause-breaks : goal.returns-in-Err-clause-breaks
 returns-in-Err-clause-breaks g c = λ starts steps left later before many enough rooms journals run_is left_is.
     let E = g.E.BusEnd in let B = g.B.Board in let inv = c.loop-run.invariant in
     let script = c.args.struck.now.script in let from = c.args.from in let run = c.loop-run.run in
-    let was = c.loop-run.seats in let now = c.sample_all.new.seats in
+    let was = c.loop-run.bus_nodes in let now = c.sample_all.new.bus_nodes in
     let a = c.loop-run.board in
     let within : run < c.quiet_for-calm.result = search rules in
     let count = c.quiet_for-calm.ensures.most in let all = c.room_of-fit.ensures.most in
     let early : run < c.args.most = omega (arith, within, count, all) in
     let goes : c.goes_on.result ≡ true = search rules in
-    let none = none_still B.orders_are (length c.args.seats.now) c.args.board.now a was c.loop-run.auto.seats inv.board
+    let none = none_still B.orders_are (length c.args.bus_nodes.now) c.args.board.now a was c.loop-run.auto.bus_nodes
+    inv.board
     c.requires.may.orders in record {
       mid = moment_of script starts steps (from + run) (left - run) was c.loop-run.links a;
       run = run;
       early = early;
       bits = inv.bits starts steps left before enough;
-      before = works_untold c.args.to_rest script starts steps from (from + run) left (left - run) c.args.seats.now was
+      before = works_untold c.args.to_rest script starts steps from (from + run) left (left - run) c.args.bus_nodes.now
+          was
           c.args.links.now c.loop-run.links c.args.board.now a inv.bus.ready (c.goes_on.ensures.works goes) inv.board
-          c.loop-run.auto.seats inv.more;
+          c.loop-run.auto.bus_nodes inv.more;
       stops = stops_on E (B.orders_are a) script starts steps (from + run) (left - run) (from + left) was
           now c.loop-run.links c.sample_all.new.links c.in-Err.fault later g.met.E.BusEnd.same_refl
           g.met.E.BusEnd.same_links journals
-          (omega (arith, early, enough)) c.sample_all.auto.seats
+          (omega (arith, early, enough)) c.sample_all.auto.bus_nodes
           (let long = each_length E.same c.args.links.now c.loop-run.links inv.sames in
-          let ends = c.requires.seated.ends.count in let same = c.loop-run.auto.seats in omega (
+          let ends = c.requires.on_bus.ends.count in let same = c.loop-run.auto.bus_nodes in omega (
             arith,
             long,
             ends,
             same,
           ))
-          (begun_bits starts c.args.seats.now was c.loop-run.auto.seats inv.more before)
+          (begun_bits starts c.args.bus_nodes.now was c.loop-run.auto.bus_nodes inv.more before)
           (links_kept E.links E.same g.met.E.BusEnd.same_links starts starts c.args.links.now c.loop-run.links refl
           inv.sames many) (inv.rooms (room_for (from + left) steps) rooms) none
           c.in-Err.ensures.broken;
@@ -256,7 +266,8 @@ returns-in-Err-clause-breaks g c = λ starts steps left later before many enough
 -- ---- why they ended
 
 -- there was room for so many
-free_for : (g : _) (c : After-quiet_for-calm g) (run : ℕ) → run ≤ c.quiet_for-calm.result → AreFree run c.args.seats.now
+free_for : (g : _) (c : After-quiet_for-calm g) (run : ℕ) → run ≤ c.quiet_for-calm.result →
+    AreFree run c.args.bus_nodes.now
 free_for g c run few k s here =
     let room = c.room_of-fit.ensures.free k s here in let most = c.quiet_for-calm.ensures.most in
     omega (arith, room, most, few)
@@ -265,32 +276,32 @@ pub returns-after-loop-run-clause-runs : goal.returns-after-loop-run-clause-runs
 returns-after-loop-run-clause-runs g c =
     let at = (goal.at.returns-after-loop-run-clause-runs g c).After-quiet_for-calm in let inv = c.loop-run.invariant in
     let past = c.loop-run-test.false in let within = inv.within in
-    let script = c.args.struck.now.script in let seats = c.loop-run.seats in record {
+    let script = c.args.struck.now.script in let bus_nodes = c.loop-run.bus_nodes in record {
       runs = record {
         bus = inv.bus;
-        begun = λ starts. begun_bits starts c.args.seats.now seats c.loop-run.auto.seats inv.more;
+        begun = λ starts. begun_bits starts c.args.bus_nodes.now bus_nodes c.loop-run.auto.bus_nodes inv.more;
         rooms = inv.rooms;
         unstruck = inv.unstruck;
         bits = inv.bits;
       };
-      ends = ends_untold c.args.to_rest script c.args.from c.args.most c.loop-run.run c.args.seats.now seats
+      ends = ends_untold c.args.to_rest script c.args.from c.args.most c.loop-run.run c.args.bus_nodes.now bus_nodes
           (free_for g at c.loop-run.run within) inv.fresh
           (ends_full c.args.to_rest script c.args.from c.args.most c.room_of-fit.result c.quiet_for-calm.result
-          c.loop-run.run seats inv.used c.quiet_for-calm.ensures.longest (omega (arith, past, within)));
+          c.loop-run.run bus_nodes inv.used c.quiet_for-calm.ensures.longest (omega (arith, past, within)));
     }
 
 pub returns-else-goes_on-clause-runs : goal.returns-else-goes_on-clause-runs
 returns-else-goes_on-clause-runs g c =
     let at = (goal.at.returns-else-goes_on-clause-runs g c).After-quiet_for-calm in let inv = c.loop-run.invariant in
-    let script = c.args.struck.now.script in let seats = c.loop-run.seats in record {
+    let script = c.args.struck.now.script in let bus_nodes = c.loop-run.bus_nodes in record {
       runs = record {
         bus = inv.bus;
-        begun = λ starts. begun_bits starts c.args.seats.now seats c.loop-run.auto.seats inv.more;
+        begun = λ starts. begun_bits starts c.args.bus_nodes.now bus_nodes c.loop-run.auto.bus_nodes inv.more;
         rooms = inv.rooms;
         unstruck = inv.unstruck;
         bits = inv.bits;
       };
-      ends = ends_untold c.args.to_rest script c.args.from c.args.most c.loop-run.run c.args.seats.now seats
+      ends = ends_untold c.args.to_rest script c.args.from c.args.most c.loop-run.run c.args.bus_nodes.now bus_nodes
           (free_for g at c.loop-run.run inv.within) inv.fresh
           (inr (inr (inr (c.goes_on.ensures.no c.if-goes_on.false))));
     }
@@ -298,7 +309,7 @@ returns-else-goes_on-clause-runs g c =
 pub returns-then-end-clause-runs : goal.returns-then-end-clause-runs
 returns-then-end-clause-runs g c =
     let at = goal.at.returns-then-end-clause-runs g c in
-    let P : _ → Type 0 = λ b. SomeTold (g.B.Board.told b c.sample_all.new.board) c.sample_all.new.seats in
+    let P : _ → Type 0 = λ b. SomeTold (g.B.Board.told b c.sample_all.new.board) c.sample_all.new.bus_nodes in
     let within : c.loop-run.run < c.quiet_for-calm.result = search rules in record {
       runs = runs_more g at.In-Ok;
       ends = record {

@@ -1,6 +1,6 @@
 use Rattle.std.proofs.Common.{◌≡◌, ◌≤◌, ◌<◌, ℕ}
 use Rattle.std.specs.Prelude.{◌⊎◌, take}
-use Rattle.sja_script.specs.Striking.{Strikes}
+use Rattle.sja_steps.specs.Striking.{Strikes}
 use Rattle.sja_bus.specs.Inside.StrikesByBit.{IsUnstruck}
 use Rattle.sja_bus.proofs.coming.next_strike.Given as goal
 

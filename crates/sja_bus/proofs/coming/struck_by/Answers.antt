@@ -1,6 +1,6 @@
 use Rattle.std.proofs.Common.{◌<◌, length, rules, inl, inr}
 use Rattle.std.specs.Prelude.{slice_index_or}
-use Rattle.sja_script.specs.declared.strike.Strike.{Strike}
+use Rattle.sja_steps.specs.declared.strike.Strike.{Strike}
 use Rattle.sja_bus.proofs.WholeBus.Marking.{struck_next}
 use Rattle.sja_bus.proofs.coming.struck_by.Goals as goal
 

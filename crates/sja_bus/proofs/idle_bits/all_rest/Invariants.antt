@@ -6,5 +6,5 @@ use Rattle.sja_bus.proofs.idle_bits.all_rest.Given as goal
 -- of each so far the bits passed
 abbrev pub invariant-loop-k : goal.invariant-loop-k
 invariant-loop-k l = record {
-  done : Done (λ m old new. new ≡ after_bits l.count old) l.k l.initial.seats l.seats;
+  done : Done (λ m old new. new ≡ after_bits l.count old) l.k l.initial.bus_nodes l.bus_nodes;
 }

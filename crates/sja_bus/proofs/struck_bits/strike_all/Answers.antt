@@ -1,7 +1,7 @@
 use Rattle.std.proofs.Common.{◌≡◌, ◌+◌, ◌<◌, ◌++◌, ◌∷◌, [], List, length, take, sym, subst, add-one, ◌∙◌}
 use Rattle.std.specs.Prelude.{slice_index_or}
 use Rattle.std.proofs.Math.Seq.{take-suc}
-use Rattle.sja_script.specs.declared.strike.Strike.{Strike}
+use Rattle.sja_steps.specs.declared.strike.Strike.{Strike}
 use Rattle.sja_bus.specs.Inside.StrikesByBit.{IsTableOf}
 use Rattle.sja_bus.proofs.WholeBus.Marking.{table_of_more}
 use Rattle.sja_bus.proofs.struck_bits.strike_all.Goals as goal

@@ -11,4 +11,4 @@ returns-in-Ok c =
     }
 
 pub returns-then-not-has_read_as : goal.returns-then-not-has_read_as
-returns-then-not-has_read_as c = runs_none c.args.to_rest c.args.calm c.args.seats.now
+returns-then-not-has_read_as c = runs_none c.args.to_rest c.args.calm c.args.bus_nodes.now

@@ -1,7 +1,7 @@
 use Rattle.std.proofs.Common.{◌≡◌, rules, sym, ap, ◌∙◌}
-use Rattle.sja_link.specs.Lists.{Keeps}
-use Rattle.sja_link.specs.Accounts.{with_entry}
-use Rattle.sja_link.specs.Verdicts.{entry_of}
+use Rattle.sja_journal.specs.Lists.{Keeps}
+use Rattle.sja_journal.specs.Accounts.{with_entry}
+use Rattle.sja_journal.specs.Verdicts.{entry_of}
 use Rattle.sja_link.specs.BusLedgers.{link_of, activation_of}
 use Rattle.sja_bus.proofs.ItemsTaken.Retrying.{tried_none, tried_again, carried_after, others_after}
 use Rattle.sja_bus.proofs.verdict.accept.Goals as goal

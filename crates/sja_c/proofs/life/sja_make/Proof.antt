@@ -35,7 +35,7 @@ use Rattle.sja_c.specs.Handles.{is_handle, empty}
 use Rattle.sja_c.specs.contracts.new_handle.NewHandle as made
 use Rattle.sja_c.specs.contracts.new_handle.make as call
 use Rattle.sja_c.specs.declared.new_handle.NewHandle.{NewHandle}
-use Rattle.sja_calls.specs.declared.held_session.HeldSession.{HeldSession}
+use Rattle.sja_calls.specs.declared.handle.Handle.{Handle}
 use Rattle.sja_c.specs.contracts.life.sja_make.{ended, clauses}
 use Rattle.sja_c.specs.contracts.life.sja_make.Key.{name as #self}
 use Rattle.sja_c.proofs.life.sja_make.Statement.{statement}
@@ -90,7 +90,7 @@ sja_make_spec 𝓤 𝓛 𝓜 𝓡 wired =
     move ! (3 ∷ 0 ∷ 1 ∷ []) $ fjoin3 ! $ nothing ! $ move ! (1 ∷ 0 ∷ []) $ fjoin ! $ nothing ! $ fjoin ! $
     move ! (1 ∷ []) $ nothing ! $ move ! (1 ∷ 0 ∷ []) $ join ! $
     -- [the token; the caller's place; what lies at the handle; the answer]
-    move ! (2 ∷ []) $ rewrite ! 0 (λ (h : HeldSession). ‵ (is_handle x.at h)) is_empty refl $
+    move ! (2 ∷ []) $ rewrite ! 0 (λ (h : Handle). ‵ (is_handle x.at h)) is_empty refl $
     use0 𝓛 (raw (fact 𝓤 (AnswersMake x.at x.answer))) (fact_i 𝓤 (AnswersMake x.at x.answer) (emp 𝓤) said) $
     move ! (1 ∷ 0 ∷ []) $ join ! $ keep ! (1 ∷ 2 ∷ 3 ∷ 0 ∷ []) $
     by ! (leaves 𝓛 ended hs c ((κs, qs, bounds, a, (allocs, (mut_vals session, tt))), g) (word x.answer) x.answer

@@ -1,5 +1,5 @@
 use Rattle.std.proofs.Common.{◌≡◌, ℕ, List, subst, arith}
-use Rattle.sja_driver.specs.Accesses.{Access}
+use Rattle.sja_driver.specs.StepRuns.{StepRun}
 use Rattle.sja_session.specs.ByAddress.{IsWriteFault, MayWrite, Writes}
 use Rattle.sja_session.specs.Sessions.{SessionValue, IsAt}
 use Rattle.sja_session.specs.declared.step_fault.StepFault.{StepFault}
@@ -9,12 +9,12 @@ use Rattle.sja_calls.proofs.accesses.write_by.Goals as goal
 -- what a write of a session does where it is done, and why it isn't
 abbrev Does : SessionValue → SessionValue → ℕ → ℕ → ℕ → Type 0
 Does r s node address value =
-    (accesses : List (List Access)) → IsAt r accesses →
-    MayWrite r node address value accesses × Writes r s node address value accesses
+    (step_runs : List (List StepRun)) → IsAt r step_runs →
+    MayWrite r node address value step_runs × Writes r s node address value step_runs
 
 abbrev Fails : SessionValue → StepFault → ℕ → ℕ → ℕ → Type 0
 Fails r fault node address value =
-    (accesses : List (List Access)) → IsAt r accesses → IsWriteFault r node address value accesses fault
+    (step_runs : List (List StepRun)) → IsAt r step_runs → IsWriteFault r node address value step_runs fault
 
 -- what holds of three numbers holds of equal ones
 same : (P : ℕ → ℕ → ℕ → Type 0) (node node' address address' value value' : ℕ) → node ≡ node' →
@@ -27,7 +27,7 @@ pub returns-in-Ok-write-clause-writes : goal.returns-in-Ok-write-clause-writes
 returns-in-Ok-write-clause-writes c =
     let done = c.in-Ok-write.ensures in
     same (Does c.args.session.now c.write.new.self) _ _ _ _ _ _ c.in-Some.ensures.some c.in-Ok.ensures.1
-    c.in-Ok-try_from.ensures.1 (λ accesses at. (done.may accesses at, done.writes accesses at))
+    c.in-Ok-try_from.ensures.1 (λ step_runs at. (done.may step_runs at, done.writes step_runs at))
 
 fails : (r : SessionValue) (fault told : StepFault) (node node' address address' value value' : ℕ) → fault ≡ told →
     node ≡ node' → address ≡ address' → value ≡ value' → Fails r fault node address value →

@@ -1,6 +1,6 @@
 use Rattle.std.proofs.Common.{◌≡◌, ◌∙◌, ℕ, List, sym, subst}
-use Rattle.sja_driver.specs.Accesses.{Access}
-use Rattle.sja_session.specs.Placing.{RunsTo, MayRunTo}
+use Rattle.sja_driver.specs.StepRuns.{StepRun}
+use Rattle.sja_session.specs.SessionPlaces.{RunsTo, MayRunTo}
 use Rattle.sja_session.specs.Sessions.{IsAt}
 use Rattle.sja_calls.proofs.placing.to_by.Goals as goal
 
@@ -13,6 +13,6 @@ returns-in-Ok-clause-runs c =
       named = sym c.place_of.ensures ∙ c.in-Some.is;
       may = subst (λ (n : ℕ). MayRunTo was n limit) same c.in-Ok.ensures.may;
       run = reached.bits;
-      runs = λ accesses at. subst (λ (n : ℕ). RunsTo was now n place limit reached.bits reached.there accesses) same
-          (c.in-Ok.ensures.runs accesses at);
+      runs = λ step_runs at. subst (λ (n : ℕ). RunsTo was now n place limit reached.bits reached.there step_runs) same
+          (c.in-Ok.ensures.runs step_runs at);
     }

@@ -1,6 +1,6 @@
 use Rattle.std.proofs.Common.{ap}
 use Rattle.std.specs.Prelude.{Err}
-use Rattle.sja_link.specs.Lists.{on, is_on, same_on}
+use Rattle.sja_journal.specs.Lists.{on, is_on, same_on}
 use Rattle.sja_driver.specs.Drivers.{activation_in}
 use Rattle.sja_driver.proofs.Step.Releasing.{released_acts, unmet_acts}
 use Rattle.sja_driver.proofs.active_steps.release_step.Goals as goal

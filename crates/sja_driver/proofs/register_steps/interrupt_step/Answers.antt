@@ -1,7 +1,7 @@
 use Rattle.std.proofs.Common.{◌∙◌, refl, sym, ap, inl, inr}
 use Rattle.sja_regs.specs.InterruptLine.{is_line_active}
-use Rattle.sja_script.specs.declared.refusal.Refusal.TheVariants.{Closed}
-use Rattle.sja_script.specs.declared.step_answer.StepAnswer.TheVariants.{Done, Refused}
+use Rattle.sja_steps.specs.declared.refusal.Refusal.TheVariants.{Closed}
+use Rattle.sja_steps.specs.declared.step_answer.StepAnswer.TheVariants.{Done, Refused}
 use Rattle.sja_driver.proofs.Step.Observed.{line_acts}
 use Rattle.sja_driver.proofs.register_steps.interrupt_step.Goals as goal
 

@@ -1,7 +1,7 @@
 use Rattle.std.proofs.Common.{sym, subst}
-use Rattle.sja_link.specs.Lists.{on, is_on, same_on}
-use Rattle.sja_script.specs.declared.step.Step.TheVariants.{Write}
-use Rattle.sja_script.specs.declared.step_answer.StepAnswer.{StepAnswer}
+use Rattle.sja_journal.specs.Lists.{on, is_on, same_on}
+use Rattle.sja_steps.specs.declared.step.Step.TheVariants.{Write}
+use Rattle.sja_steps.specs.declared.step_answer.StepAnswer.{StepAnswer}
 use Rattle.sja_driver.specs.Acting.{ActsOn}
 use Rattle.sja_driver.specs.AnyDrivers.{link_used}
 use Rattle.sja_driver.specs.Tries.Tried.{Answered}

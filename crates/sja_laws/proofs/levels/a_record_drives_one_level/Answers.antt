@@ -1,4 +1,4 @@
-use Rattle.can_node.proofs.OneCut.SameCuts.{drives_same}
+use Rattle.can_node_rules.proofs.OneCut.SameCuts.{drives_same}
 use Rattle.sja_laws.proofs.levels.a_record_drives_one_level.Goals as goal
 
 pub returns : goal.returns

@@ -2,7 +2,7 @@ use Rattle.std.proofs.Common.{IfOk, Result, subst}
 use Rattle.sja_session.specs.declared.no_plan.NoPlan.{NoPlan}
 use Rattle.sja_plan.specs.Plan.{PlanValue}
 use Rattle.sja_log.specs.Log.{RunValue}
-use Rattle.sja_log.specs.Runs.{IsSerialRun}
+use Rattle.sja_promises.specs.Runs.{IsSerialRun}
 use Rattle.sja_log.specs.declared.run_fault.RunFault.{RunFault}
 use Rattle.sja_laws.proofs.WholeRun.Logs.{log_once}
 use Rattle.sja_laws.proofs.one_log.a_session_replays.Goals as goal

@@ -1,6 +1,6 @@
 use Rattle.std.proofs.Common.{◌≡◌, ◌<◌, ◌≤◌, ◌+◌, ◌⊎◌, ℕ, refl, arith, inl, inr}
 use Rattle.std.proofs.lemmas.Bool.{cases_lt}
-use Rattle.sja_log.specs.Turns.{Acts, IsLineDown, IsLineUp, Progress, deeds_by, entries_by}
+use Rattle.sja_promises.specs.Turns.{Acts, IsLineDown, IsLineUp, Progress, acts_by, entries_by}
 use Rattle.sja_laws.proofs.WholeRun.Lines.{two_lines}
 use Rattle.sja_laws.proofs.resting.irq_runs_one_number_of_bits.Goals as goal
 
@@ -9,8 +9,8 @@ ends_later : (r : Acts) (p : Progress) (k most n m : ℕ) → m ≤ most → (n 
     ((i : ℕ) → i < m → IsLineDown r p k (p.bits + i)) → n < m → ⊥
 ends_later r p k most n m few (inl is) down fewer = omega (arith, is, fewer, few)
 ends_later r p k most n m few (inr up) down fewer =
-    two_lines r.plan.version (entries_by r p k (p.bits + n)) (entries_by r p k (p.bits + n)) (deeds_by r p k)
-    (deeds_by r p k) refl refl (down n fewer) up
+    two_lines r.plan.version (entries_by r p k (p.bits + n)) (entries_by r p k (p.bits + n)) (acts_by r p k)
+    (acts_by r p k) refl refl (down n fewer) up
 
 pub returns : goal.returns
 returns c = λ r p k most n m few less down ends dark stops. elim (cases_lt n m) [

@@ -1,5 +1,5 @@
 use Rattle.std.proofs.Common.{◌∷◌, [], ap, ◌∙◌, sym}
-use Rattle.sja_link.specs.declared.up.Up.TheVariants.{Credit}
+use Rattle.sja_journal.specs.declared.up.Up.TheVariants.{Credit}
 use Rattle.sja_link.proofs.JournalEntries.Counting.{credit_here, off_not_here, none_past}
 use Rattle.sja_link.proofs.counts.credit_at.Goals as goal
 

@@ -16,16 +16,16 @@ pub returns-in-Rest-clause-answers : goal.returns-in-Rest-clause-answers
 returns-in-Rest-clause-answers c = rw c.in-Rest.is c.rested.ensures
 
 pub returns-in-To-clause-answers : goal.returns-in-To-clause-answers
-returns-in-To-clause-answers c = rw c.in-To.is c.came.ensures
+returns-in-To-clause-answers c = rw c.in-To.is c.run_to.ensures
 
 pub returns-in-PlaceOf-clause-answers : goal.returns-in-PlaceOf-clause-answers
 returns-in-PlaceOf-clause-answers c = rw c.in-PlaceOf.is c.place_told.ensures
 
 pub returns-in-Line-clause-answers : goal.returns-in-Line-clause-answers
-returns-in-Line-clause-answers c = rw c.in-Line.is c.looked.ensures
+returns-in-Line-clause-answers c = rw c.in-Line.is c.lines.ensures
 
 pub returns-in-Strike-clause-answers : goal.returns-in-Strike-clause-answers
-returns-in-Strike-clause-answers c = rw c.in-Strike.is c.struck.ensures.answers
+returns-in-Strike-clause-answers c = rw c.in-Strike.is c.strike.ensures.answers
 
 pub returns-in-Answer-clause-answers : goal.returns-in-Answer-clause-answers
 returns-in-Answer-clause-answers c = rw c.in-Answer.is c.last_answer.ensures

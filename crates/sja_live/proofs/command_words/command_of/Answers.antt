@@ -2,7 +2,7 @@ use Rattle.std.proofs.Common.{rules, ◌≡◌, List, [], Bor, codes, sym, subst
 use Rattle.std.specs.Prelude.{IfOk, IfErr}
 use Rattle.sja_live.specs.Commands.{AreCommandWords}
 use Rattle.sja_live.specs.Inside.Reading.{IsCommandRefusal}
-use Rattle.sja_plan.specs.Words.{Text}
+use Rattle.sja_plan_reading.specs.Words.{Text}
 use Rattle.sja_live.proofs.Lines.WordLists.{one_word, two_words, three_words, four_words, text_at, words_behind}
 use Rattle.sja_live.proofs.command_words.command_of.Goals as goal
 

@@ -1,5 +1,5 @@
 use Rattle.std.proofs.Common.{rules, ◌≡◌, [], Bor, codes, ap, ◌∙◌}
-use Rattle.sja_plan.specs.Words.{Text}
+use Rattle.sja_plan_reading.specs.Words.{Text}
 use Rattle.sja_live.proofs.Lines.WordLists.{live_words, text_at, texts}
 use Rattle.sja_live.proofs.opening_words.opened.Goals as goal
 

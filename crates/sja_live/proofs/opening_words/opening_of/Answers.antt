@@ -1,6 +1,6 @@
 use Rattle.std.proofs.Common.{ℕ, subst}
 use Rattle.sja_live.specs.Opening.{least_bits}
-use Rattle.sja_plan.specs.Words.{SpellsWithin}
+use Rattle.sja_plan_reading.specs.Words.{SpellsWithin}
 use Rattle.sja_live.proofs.opening_words.opening_of.Goals as goal
 
 -- ---- a number isn't one of those that there may be

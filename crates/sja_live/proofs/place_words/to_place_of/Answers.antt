@@ -3,7 +3,7 @@ use Rattle.std.specs.Prelude.{IfOk, IfErr}
 use Rattle.sja_live.specs.Commands.{AreCommandWords, ArePlaceWords}
 use Rattle.sja_live.specs.Commands.ArePlaceWords.{one, two}
 use Rattle.sja_live.specs.Inside.Reading.{IsCommandRefusal}
-use Rattle.sja_plan.specs.Words.{Text}
+use Rattle.sja_plan_reading.specs.Words.{Text}
 use Rattle.sja_live.proofs.Lines.WordLists.{text_at}
 use Rattle.sja_live.proofs.Lines.WayWords.{two_behind, three_behind, way_asked, way_mistaken, ok_so, err_so}
 use Rattle.sja_live.proofs.place_words.to_place_of.Goals as goal

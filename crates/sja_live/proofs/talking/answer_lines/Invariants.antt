@@ -1,8 +1,8 @@
 use Rattle.std.specs.Prelude.{Option}
 use Rattle.sja_live.specs.Inside.Standing.{IsLive}
-use Rattle.sja_live.specs.Inside.Going.{Goes, IsBegun}
+use Rattle.sja_live.specs.Inside.LiveProgress.{Goes, IsBegun}
 use Rattle.sja_live.proofs.talking.answer_lines.Given as goal
-use Rattle.sja_plan.specs.Words.{Text}
+use Rattle.sja_plan_reading.specs.Words.{Text}
 
 -- the lines so far were answered
 abbrev pub invariant-loop : goal.invariant-loop

@@ -9,8 +9,8 @@ use Rattle.sja_plan_text.proofs.Tables.Plans.{is_document}
 use Rattle.sja_plan_text.proofs.document.document.Goals as goal
 
 -- names are written in version 3 alone
-raw_where_named : (pretty : Bool) (version : ℕ) → has_names pretty version ≡ true → 3 ≤ version
-raw_where_named pretty version h =
+by_bytes_if_named : (pretty : Bool) (version : ℕ) → has_names pretty version ≡ true → 3 ≤ version
+by_bytes_if_named pretty version h =
     let raw : nat_le 3 version ≡ true = (and_parts pretty (nat_le 3 version) h).1 in
     grind (arith, nat_tests, raw)
 
@@ -33,6 +33,6 @@ returns c =
     let read = written_read c.args.pretty named plan.version plan.bits (map turn_text plan.turns) plan.strikes
     plan.nodes text limits.nodes.0 written in (
       subst (λ n. IsLinesText c.args.pretty false (plan_lines n plan) text) same written,
-      is_document named plan text (λ e. raw_where_named c.args.pretty plan.version (sym same ∙ e)) limits c.requires
+      is_document named plan text (λ e. by_bytes_if_named c.args.pretty plan.version (sym same ∙ e)) limits c.requires
           read,
     )

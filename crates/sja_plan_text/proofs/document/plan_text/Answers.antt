@@ -2,8 +2,8 @@ use Rattle.std.proofs.Common.{◌≡◌, ◌<◌, ◌≤◌, ℕ, Bool, true, fa
 use Rattle.std.proofs.Common.{string_bytes}
 use Rattle.std.specs.Prelude.{IsUtf8}
 use Rattle.std.proofs.lemmas.Str.{IsUtf8-string_bytes}
-use Rattle.sja_plan.specs.Faults.{IsPlanOf}
-use Rattle.sja_plan.specs.Limits.{most_bytes}
+use Rattle.sja_plan_reading.specs.Faults.{IsPlanOf}
+use Rattle.sja_plan_reading.specs.DocumentLimits.{most_bytes}
 use Rattle.sja_plan.specs.Plan.{PlanValue}
 use Rattle.sja_plan_text.specs.Document.{IsDocumentOf}
 use Rattle.sja_plan_text.specs.Written.{IsWritten, IsLong}

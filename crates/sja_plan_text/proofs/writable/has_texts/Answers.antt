@@ -1,6 +1,6 @@
 use Rattle.std.proofs.Common.{rules, ◌<◌, ◌≤◌, IsTrue, All, List, [], length, arith}
 use Rattle.std.proofs.lemmas.List.Elements.{All-more}
-use Rattle.sja_script.specs.declared.step.Step.{Step}
+use Rattle.sja_steps.specs.declared.step.Step.{Step}
 use Rattle.sja_plan.specs.Limits.{most_steps}
 use Rattle.sja_plan_text.specs.HasTexts.{HasStepText}
 use Rattle.sja_plan_text.proofs.Tables.Lists.{all_taken}

@@ -5,5 +5,5 @@ pub returns-clause-kept : goal.returns-clause-kept
 returns-clause-kept c = pending_latched
 
 pub returns-clause-earlier : goal.returns-clause-earlier
-returns-clause-earlier c = λ p calls raw earlier unread. pending_latched p calls unread
-    (keep_pending p calls raw earlier)
+returns-clause-earlier c = λ p calls by_bytes earlier unread. pending_latched p calls unread
+    (keep_pending p calls by_bytes earlier)

@@ -1,4 +1,4 @@
-use Rattle.sja_run.specs.Check.{IsHinted}
+use Rattle.sja_program.specs.Check.{IsHinted}
 use Rattle.sja_run.proofs.file_answers.check_outcome.Goals as goal
 
 -- what a run left out

@@ -1,6 +1,6 @@
 use Rattle.std.proofs.Common.{◌≡◌, map, take}
 use Rattle.std.specs.List.{list_all}
-use Rattle.sja_texts.specs.declared.command_refusal.CommandRefusal.TheVariants.{OutOfMemory}
+use Rattle.text_codec.specs.declared.command_refusal.CommandRefusal.TheVariants.{OutOfMemory}
 use Rattle.sja_run.specs.Files.{is_printed, of_each, printed_of, refused_of}
 use Rattle.sja_run.specs.Inside.FileReads.{all_refused}
 use Rattle.sja_run.specs.Inside.FileTexts.{Wrote}

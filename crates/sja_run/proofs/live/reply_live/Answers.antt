@@ -1,6 +1,6 @@
 use Rattle.std.proofs.Common.{◌≡◌, ◌≢◌, refl, sym, subst, inr}
-use Rattle.sja_live.specs.declared.talk_fault.TalkFault.TheVariants.{Memory, Read as ReadFault, Write}
-use Rattle.sja_texts.specs.declared.command_refusal.CommandRefusal.TheVariants.{OutOfMemory, Read}
+use Rattle.sja_live.specs.declared.live_session_fault.LiveSessionFault.TheVariants.{Memory, Read as ReadFault, Write}
+use Rattle.text_codec.specs.declared.command_refusal.CommandRefusal.TheVariants.{OutOfMemory, Read}
 use Rattle.sja_run.specs.Live.{SaysWhy}
 use Rattle.sja_run.proofs.live.reply_live.Goals as goal
 

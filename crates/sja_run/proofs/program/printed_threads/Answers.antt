@@ -1,8 +1,8 @@
 use Rattle.std.proofs.lemmas.Result.{IfOk-weaker, IfErr-weaker}
-use Rattle.sja_words.specs.Requests.{sweep}
-use Rattle.sja_run.specs.Sweep.{RefusesOfPlan, RefusesSwept}
-use Rattle.sja_run.proofs.Denied.{asked_denied, left_denied}
-use Rattle.sja_run.proofs.Requested.Requests.{left_printed}
+use Rattle.sja_command_line.specs.Requests.{sweep}
+use Rattle.sja_program.specs.Sweep.{RefusesOfPlan, RefusesSwept}
+use Rattle.sja_program.proofs.Denied.{asked_denied, left_denied}
+use Rattle.sja_program.proofs.Requested.Requests.{left_printed}
 use Rattle.sja_run.proofs.program.printed_threads.Goals as goal
 
 -- the text of a run

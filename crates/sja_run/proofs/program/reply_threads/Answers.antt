@@ -1,5 +1,5 @@
-use Rattle.sja_run.proofs.BytesRead.FewBytes.{few_left_printed}
-use Rattle.sja_run.proofs.Denied.{few_left_denied}
+use Rattle.sja_program.proofs.BytesRead.FewBytes.{few_left_printed}
+use Rattle.sja_program.proofs.Denied.{few_left_denied}
 use Rattle.sja_run.proofs.program.reply_threads.Goals as goal
 
 -- its text was printed

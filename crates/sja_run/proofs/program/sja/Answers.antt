@@ -1,13 +1,13 @@
 use Rattle.std.proofs.Common.{◌≡◌, ap, map, refl, subst, sym, inl, inr}
 use Rattle.std.specs.Io.KnownBytes.{Keeps}
 use Rattle.std.proofs.KnownBytes.{Keeps-refl}
-use Rattle.sja_words.specs.Requests.{Request, expected, files, live}
-use Rattle.sja_words.specs.Words.{ParsesAs}
-use Rattle.sja_run.specs.Answer.{request_left}
+use Rattle.sja_command_line.specs.Requests.{Request, expected, files, live}
+use Rattle.sja_command_line.specs.Words.{ParsesAs}
+use Rattle.sja_program.specs.Answer.{request_left}
 use Rattle.sja_run.proofs.FilesDone.FileSteps.{files_from, files_unread}
 use Rattle.sja_run.proofs.FilesDone.ReportsMet.{met_unread, shows_met}
 use Rattle.sja_run.proofs.Requested.Asked.{one_asked, shows_asked}
-use Rattle.sja_run.proofs.Requested.Requests.{asks_left, asks_one, is_left_over, left_shows, one_left, shows_from}
+use Rattle.sja_program.proofs.Requested.Requests.{asks_left, asks_one, is_left_over, left_shows, one_left, shows_from}
 use Rattle.sja_run.proofs.Requested.Talks.{left_talks, talks_from}
 use Rattle.sja_run.proofs.program.sja.Goals as goal
 
@@ -40,35 +40,35 @@ returns-in-Ok-clause-answered g c = λ r parses wrote told.
     (ap (λ o. g.O.Write.contents o.writer) left.2) told))
 
 -- a talk is left to this call where the words ask for one, and nothing was read or written for it
-pub returns-in-Err-Talk-clause-answered : goal.returns-in-Err-Talk-clause-answered
-returns-in-Err-Talk-clause-answered g c = λ r parses wrote told.
-    let left = rw c.in-Err-Talk.field-0-is at c.in-Err-Talk.ensures.left in
-    let threads = c.in-Err-Talk.ensures.threads live left.0 tt in
+pub returns-in-Err-LiveSession-clause-answered : goal.returns-in-Err-LiveSession-clause-answered
+returns-in-Err-LiveSession-clause-answered g c = λ r parses wrote told.
+    let left = rw c.in-Err-LiveSession.field-0-is at c.in-Err-LiveSession.ensures.left in
+    let threads = c.in-Err-LiveSession.ensures.threads live left.0 tt in
     let same : r ≡ live = asks_one _ r live parses left.0 in
     rw same
     (talks_from _ _ _ _ _ _ _ _ _ _ (ap (λ i. g.R.Read.remaining i) threads.1)
     (ap (λ o. g.O.Write.contents o.writer) threads.2) (ap (λ e. g.E.Write.contents e.writer) left.2)
     (c.reply_live.ensures.answered wrote told))
 
-pub returns-in-Err-Talk-clause-unparsed : goal.returns-in-Err-Talk-clause-unparsed
-returns-in-Err-Talk-clause-unparsed g c = λ none _ _.
-    let left = rw c.in-Err-Talk.field-0-is at c.in-Err-Talk.ensures.left in absurd (none live left.0)
+pub returns-in-Err-LiveSession-clause-unparsed : goal.returns-in-Err-LiveSession-clause-unparsed
+returns-in-Err-LiveSession-clause-unparsed g c = λ none _ _.
+    let left = rw c.in-Err-LiveSession.field-0-is at c.in-Err-LiveSession.ensures.left in absurd (none live left.0)
 
-pub returns-in-Err-Talk-clause-untouched : goal.returns-in-Err-Talk-clause-untouched
-returns-in-Err-Talk-clause-untouched g c = λ none.
-    let left = rw c.in-Err-Talk.field-0-is at c.in-Err-Talk.ensures.left in absurd (none live left.0)
+pub returns-in-Err-LiveSession-clause-untouched : goal.returns-in-Err-LiveSession-clause-untouched
+returns-in-Err-LiveSession-clause-untouched g c = λ none.
+    let left = rw c.in-Err-LiveSession.field-0-is at c.in-Err-LiveSession.ensures.left in absurd (none live left.0)
 
-pub returns-in-Err-Talk-clause-one_writer : goal.returns-in-Err-Talk-clause-one_writer
-returns-in-Err-Talk-clause-one_writer g c = λ none.
-    let left = rw c.in-Err-Talk.field-0-is at c.in-Err-Talk.ensures.left in absurd (none live left.0)
+pub returns-in-Err-LiveSession-clause-one_writer : goal.returns-in-Err-LiveSession-clause-one_writer
+returns-in-Err-LiveSession-clause-one_writer g c = λ none.
+    let left = rw c.in-Err-LiveSession.field-0-is at c.in-Err-LiveSession.ensures.left in absurd (none live left.0)
 
-pub returns-in-Err-Talk-clause-unread : goal.returns-in-Err-Talk-clause-unread
-returns-in-Err-Talk-clause-unread g c = λ none.
-    let left = rw c.in-Err-Talk.field-0-is at c.in-Err-Talk.ensures.left in absurd (none live left.0 tt)
+pub returns-in-Err-LiveSession-clause-unread : goal.returns-in-Err-LiveSession-clause-unread
+returns-in-Err-LiveSession-clause-unread g c = λ none.
+    let left = rw c.in-Err-LiveSession.field-0-is at c.in-Err-LiveSession.ensures.left in absurd (none live left.0 tt)
 
-pub returns-in-Err-Talk-clause-few : goal.returns-in-Err-Talk-clause-few
-returns-in-Err-Talk-clause-few g c = λ none.
-    let left = rw c.in-Err-Talk.field-0-is at c.in-Err-Talk.ensures.left in absurd (none live left.0)
+pub returns-in-Err-LiveSession-clause-few : goal.returns-in-Err-LiveSession-clause-few
+returns-in-Err-LiveSession-clause-few g c = λ none.
+    let left = rw c.in-Err-LiveSession.field-0-is at c.in-Err-LiveSession.ensures.left in absurd (none live left.0)
 
 -- what is left to threads is what the words ask for, and nothing was read or written for it
 pub returns-in-Err-Threads-clause-answered : goal.returns-in-Err-Threads-clause-answered

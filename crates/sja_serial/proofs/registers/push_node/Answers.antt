@@ -4,11 +4,11 @@ use Rattle.std.proofs.lemmas.List.{get_or_default}
 use Rattle.std.proofs.lemmas.Result.{on_ok_weaker}
 use Rattle.sja_regs.specs.Registers.{at_power_on}
 use Rattle.sja_regs.specs.declared.registers.Registers.{Registers}
-use Rattle.sja_driver.specs.Accesses.{Access}
+use Rattle.sja_driver.specs.StepRuns.{StepRun}
 use Rattle.sja_driver.specs.LoggedDrivers.{kept_of}
-use Rattle.sja_driver.specs.declared.kept_bytes.KeptBytes.{KeptBytes}
+use Rattle.sja_driver.specs.declared.unmodelled_registers.UnmodelledRegisters.{UnmodelledRegisters}
 use Rattle.sja_serial.specs.Registers.{kept_in, node_rows}
-use Rattle.sja_serial.specs.Serial.{StandsBy, all_deeds}
+use Rattle.sja_serial.specs.Serial.{StandsBy, all_acts}
 use Rattle.sja_serial.proofs.WholeRun.RowsAdded.{kept_is}
 use Rattle.sja_serial.proofs.registers.push_node.Given.{Over}
 use Rattle.sja_serial.proofs.registers.push_node.Goals.{After-push_registers}
@@ -40,10 +40,10 @@ bytes_are c within =
 pub returns : goal.returns
 returns g c =
     let at = (goal.at.returns g c).After-push_registers in let look = c.seen-seen.ensures in
-    on_ok_weaker c.push_registers.result (λ is accesses h. record {
-      by = look.by accesses h;
+    on_ok_weaker c.push_registers.result (λ is step_runs h. record {
+      by = look.by step_runs h;
       alike = record { bus = look.bus; ports = look.ports; kept = look.kept };
       rows = let many = h.stands.count.drivers in let less = c.requires.1 in
-          let bytes = bytes_are at (omega (arith, many, less)) in let seen = look.seen (all_deeds accesses) h.stands in
+          let bytes = bytes_are at (omega (arith, many, less)) in let seen = look.seen (all_acts step_runs) h.stands in
           is ∙ (λ t. c.args.rows.now.items ++ node_rows c.args.node (port_is at t) (bytes t) (seen t));
     }) c.push_registers.ensures

@@ -1,9 +1,9 @@
 use Rattle.std.proofs.Common.{◌≡◌, ℕ, List, ap, sym, subst, length, arith}
 use Rattle.std.specs.Prelude.{None}
 use Rattle.std.proofs.lemmas.Result.{IfOk-weaker}
-use Rattle.sja_script.specs.declared.strike.Strike.{Strike}
-use Rattle.sja_wire.specs.Lawful.{IsBusRun}
-use Rattle.sja_serial.specs.Serial.{SerialValue, all_deeds}
+use Rattle.sja_steps.specs.declared.strike.Strike.{Strike}
+use Rattle.sja_bus_rules.specs.Lawful.{IsBusRun}
+use Rattle.sja_serial.specs.Serial.{SerialValue, all_acts}
 use Rattle.sja_serial.proofs.AllNodes.Several.{by_own}
 use Rattle.sja_serial.proofs.WholeRun.RowsAdded.{all_rows}
 use Rattle.sja_serial.proofs.registers.run_registers.Goals as goal
@@ -13,7 +13,7 @@ rows_of-requires c =
     let t = c.take_turns.ensures in let s = t.stands.by.stands in
     let n = c.nodes.ensures.value in let few = c.nodes.ensures.few in
     let steps = ap (λ (l : List ℕ). length l) s.steps in let all = s.may.nodes in
-    ((t.accesses, by_own t.stands.by), omega (arith, n, few, steps, all))
+    ((t.step_runs, by_own t.stands.by), omega (arith, n, few, steps, all))
 
 pub returns : goal.returns
 returns c =
@@ -24,13 +24,13 @@ returns c =
     (c.bits_run.ensures.lawful right) in
     IfOk-weaker c.rows_of.result _ _ (λ rows told. record {
       run = r;
-      accesses = t.accesses;
+      step_runs = t.step_runs;
       by = t.stands.by;
       first = t.stands.first;
       end = c.take_turns.result;
       turns = t.turns;
       wire = subst (λ (l : List Strike). IsBusRun l r.bits r.bus.journals) s.script
           (subst (λ (k : ℕ). IsBusRun r.bus.script k r.bus.journals) (sym s.bits) lawful);
-      told = all_rows r (all_deeds t.accesses) c.nodes.result (length plan.nodes) rows.items
-          (told t.accesses (by_own t.stands.by)) (omega (arith, n, few));
+      told = all_rows r (all_acts t.step_runs) c.nodes.result (length plan.nodes) rows.items
+          (told t.step_runs (by_own t.stands.by)) (omega (arith, n, few));
     }) c.rows_of.ensures

@@ -3,14 +3,14 @@ use Rattle.std.proofs.Common.{map, replicate}
 use Rattle.std.proofs.Common.{take, refl, ap, sym, subst, arith}
 use Rattle.std.proofs.lemmas.List.{length-map, get_or-replicate}
 use Rattle.std.proofs.lemmas.Result.{IfOk-weaker}
-use Rattle.sja_driver.specs.Accesses.{Access, most_deeds}
-use Rattle.sja_link.specs.Sizes.{most_activations}
+use Rattle.sja_driver.specs.StepRuns.{StepRun, most_acts}
+use Rattle.sja_journal.specs.Sizes.{most_activations}
 use Rattle.sja_plan.proofs.PlanLimits.ByVersion.{bits_most}
 use Rattle.sja_plan.specs.Plan.{PlanValue, step_counts, steps_at}
-use Rattle.sja_script.specs.declared.step.Step.{Step}
+use Rattle.sja_steps.specs.declared.step.Step.{Step}
 use Rattle.sja_serial.specs.Ending.{AreFirst, setup_of}
 use Rattle.sja_serial.specs.Serial.{Setup, StandsBy, plan_version, setup_with}
-use Rattle.sja_wire.specs.Buses.{new_bus}
+use Rattle.sja_bus_rules.specs.Buses.{new_bus}
 use Rattle.sja_serial.proofs.WholeRun.Kept.{counts_few}
 use Rattle.sja_serial.proofs.run.new_run.Goals.{After-bits}
 use Rattle.sja_serial.proofs.run.new_run.Goals as goal
@@ -18,7 +18,7 @@ use Rattle.sja_serial.proofs.run.new_run.Goals as goal
 -- nothing done is the first of whatever there is
 none_first : (plan : PlanValue) → AreFirst plan (replicate (length plan.nodes) [])
 none_first plan node less =
-    subst (λ (l : List Access). map (λ (a : Access). a.step) l ≡ take (length l) (steps_at plan node))
+    subst (λ (l : List StepRun). map (λ (a : StepRun). a.step) l ≡ take (length l) (steps_at plan node))
     (sym (get_or-replicate (length plan.nodes) node [] [] less)) refl
 
 -- a plan's own setup, by what is read of it
@@ -29,7 +29,7 @@ of_plan plan version bits steps = λ i. let s : Setup = record {
   bits = bits i;
   strikes = plan.strikes;
   nodes = (ap (λ (l : List ℕ). length l) steps ∙ length-map plan.nodes (λ (l : List Step). length l)) i;
-  steps = map (most_deeds (version i)) (steps i);
+  steps = map (most_acts (version i)) (steps i);
 } in s
 
 pub new-requires : goal.new-requires
@@ -71,5 +71,5 @@ returns-clause-bus c =
     let at = (goal.at.returns-clause-bus c).After-bits in
     IfOk-weaker c.new.result _ _ (λ r is. is ∙ (λ i. new_bus (c.in_ok-script.ensures i) (c.bits.ensures.value i)
     (c.in_ok-steps.ensures.count i) (most_activations (version_is at i))
-    (map (most_deeds (version_is at i)) (c.in_ok-steps.ensures.value i))))
+    (map (most_acts (version_is at i)) (c.in_ok-steps.ensures.value i))))
     c.new.ensures.bus

@@ -1,8 +1,8 @@
 use Rattle.std.proofs.Common.{◌≡◌, ◌+◌, ◌<◌, ◌∙◌, ℕ, List, [], ◌∷◌, ◌++◌, Vec, Global, length, map, take, get_or, ap}
 use Rattle.std.proofs.Common.{rules, sym, subst}
 use Rattle.std.proofs.lemmas.List.{map-append, take_more}
-use Rattle.sja_link.specs.Recents.{KeepsAll, Recents}
-use Rattle.sja_script.specs.declared.step.Step.{Step}
+use Rattle.sja_journal.specs.BoundedHistories.{KeepsAll, HistoryValue}
+use Rattle.sja_steps.specs.declared.step.Step.{Step}
 use Rattle.sja_session.proofs.plan_so_far.copied_steps.Goals as goal
 
 -- one more that looks as the next one of the list does
@@ -19,7 +19,7 @@ looks_alike f g old new nodes i item x less is same is_new so_far =
 
 pub as_slice-requires : goal.as_slice-requires
 as_slice-requires c = record {
-  kept = subst (λ (l : Recents Step). KeepsAll l.room) (sym c.steps-item.is)
+  kept = subst (λ (l : HistoryValue Step). KeepsAll l.room) (sym c.steps-item.is)
       (c.requires c.loop-steps.steps-index c.steps-item.result c.loop-steps-test.true);
 }
 
@@ -27,7 +27,7 @@ pub loop-steps-preserved : goal.loop-steps-preserved
 loop-steps-preserved c = record {
   count = search rules;
   room = search rules;
-  made = looks_alike (λ (steps : Vec Step Global). steps.items) (λ (steps : Recents Step). steps.items)
+  made = looks_alike (λ (steps : Vec Step Global). steps.items) (λ (steps : HistoryValue Step). steps.items)
       c.loop-steps.list.items c.push_reserved.new.self.items c.args.nodes.now
       c.loop-steps.steps-index c.steps-item.result c.in_ok-copied_list.field-0
       c.loop-steps-test.true c.steps-item.is (c.in_ok-copied_list.ensures ∙ c.as_slice.ensures)

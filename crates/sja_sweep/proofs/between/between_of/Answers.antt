@@ -1,6 +1,6 @@
 use Rattle.std.proofs.Common.{◌≡◌, ◌++◌, List, ℕ, length, ap, ◌∙◌, arith}
-use Rattle.sja_link.specs.Carried.{overrun_of}
-use Rattle.sja_link.specs.Between.{between_bits}
+use Rattle.sja_journal.specs.Carried.{overrun_of}
+use Rattle.sja_journal.specs.Between.{between_bits}
 use Rattle.sja_sweep.specs.Changes.{times_off}
 use Rattle.sja_sweep.proofs.TriedRuns.Entries.{overrun_between, off_between}
 use Rattle.sja_sweep.proofs.between.between_of.Goals as goal

@@ -1,5 +1,5 @@
 use Rattle.std.proofs.Common.{◌≡◌, ◌+◌, ◌<◌, ◌^◌, ◌++◌, length}
-use Rattle.sja_link.specs.Carried.{overrun_of}
+use Rattle.sja_journal.specs.Carried.{overrun_of}
 use Rattle.sja_sweep.specs.Changes.{times_off}
 use Rattle.sja_sweep.proofs.between.between_of.Given as goal
 

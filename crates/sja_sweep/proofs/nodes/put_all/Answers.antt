@@ -1,4 +1,4 @@
-use Rattle.sja_report.proofs.WrittenLines.Written.{two_texts}
+use Rattle.text_report.proofs.WrittenLines.Written.{two_texts}
 use Rattle.sja_sweep.proofs.nodes.put_all.Goals as goal
 
 pub returns : goal.returns

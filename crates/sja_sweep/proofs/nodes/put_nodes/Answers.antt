@@ -1,7 +1,7 @@
 use Rattle.std.proofs.Common.{◌<◌, ◌++◌, List, length, string_bytes, arith, ap, ap₂, ◌∙◌}
 use Rattle.std.specs.Option.{option_copied}
 use Rattle.std.proofs.lemmas.List.{get_or_read}
-use Rattle.sja_script.specs.declared.step.Step.{Step}
+use Rattle.sja_steps.specs.declared.step.Step.{Step}
 use Rattle.sja_log.specs.Log.{NodeValue}
 use Rattle.sja_sweep.specs.Nodes.{no_node, node_at}
 use Rattle.sja_sweep.specs.Steps.{script_at}

@@ -1,4 +1,4 @@
-use Rattle.sja_report.proofs.WrittenLines.Written.{four_texts}
+use Rattle.text_report.proofs.WrittenLines.Written.{four_texts}
 use Rattle.sja_sweep.proofs.planned_line.put_planned.Goals as goal
 
 pub returns : goal.returns

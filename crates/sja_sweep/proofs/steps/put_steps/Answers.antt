@@ -1,8 +1,8 @@
 use Rattle.std.proofs.Common.{◌++◌, string_bytes, ap, ap₂, ◌∙◌, Option}
 use Rattle.std.specs.Prelude.{slice_get}
 use Rattle.std.specs.Option.{option_copied}
-use Rattle.sja_script.specs.declared.done.Done.{Done}
-use Rattle.sja_script.specs.declared.step.Step.{Step}
+use Rattle.sja_steps.specs.declared.step_record.StepRecord.{StepRecord}
+use Rattle.sja_steps.specs.declared.step.Step.{Step}
 use Rattle.sja_sweep.specs.Steps.{step_item}
 use Rattle.sja_sweep.proofs.NumberLists.Ranges.{text_more}
 use Rattle.sja_sweep.proofs.steps.put_steps.Goals as goal
@@ -15,6 +15,6 @@ loop-place-preserved c =
     (c.in_ok-put_step.ensures
     ∙ ap (λ (s : Option Step). string_bytes c.loop-place.text ++ step_item s c.args.node i
     (option_copied c.done_at-before.result) (option_copied c.done_at-after.result)) c.step_at-out.ensures
-    ∙ ap₂ (λ (a b : Option Done). string_bytes c.loop-place.text
+    ∙ ap₂ (λ (a b : Option StepRecord). string_bytes c.loop-place.text
     ++ step_item (slice_get c.args.script.now i) c.args.node i a b)
     c.done_at-before.ensures c.done_at-after.ensures)

@@ -4,9 +4,9 @@ use Rattle.sja_sweep.proofs.TriedRuns.ErrorLemmas.{AreErrorsSoFar}
 use Rattle.sja_sweep.proofs.trial_run.errors_of.Given as goal
 
 -- the errors of the bits so far
-abbrev pub invariant-loop-happening : goal.invariant-loop-happening
-invariant-loop-happening l = AreErrorsSoFar l.fn.journal.entries l.replay l.errors.items
+abbrev pub invariant-loop-bit_event : goal.invariant-loop-bit_event
+invariant-loop-bit_event l = AreErrorsSoFar l.fn.journal.entries l.replay l.errors.items
 
 -- the entries that are left get fewer
-abbrev pub decreases-loop-happening : goal.decreases-loop-happening
-decreases-loop-happening l = length (left_of l.replay)
+abbrev pub decreases-loop-bit_event : goal.decreases-loop-bit_event
+decreases-loop-bit_event l = length (left_of l.replay)

@@ -1,6 +1,6 @@
 use Rattle.std.proofs.Common.{◌∷◌, List, [], map, ap, ◌∙◌, subst}
 use Rattle.std.proofs.lemmas.List.{map-append}
-use Rattle.sja_link.specs.declared.entry.Entry.{Entry}
+use Rattle.sja_journal.specs.declared.entry.Entry.{Entry}
 use Rattle.sja_sweep.specs.Errors.{HasErrors}
 use Rattle.sja_sweep.proofs.TriedRuns.ErrorLemmas.{nodes_more}
 use Rattle.sja_sweep.proofs.trial_run.errors_of_nodes.Goals as goal

@@ -1,12 +1,12 @@
 use Rattle.std.proofs.Common.{rules, ◌≡◌, ◌<◌, ℕ, true, inl, inr, sym, ap, ◌∙◌, subst, arith}
 use Rattle.std.specs.Prelude.{List, length}
 use Rattle.std.proofs.lemmas.Bool.{cases_eq}
-use Rattle.sja_link.specs.Carried.{bits_of}
+use Rattle.sja_journal.specs.Carried.{bits_of}
 use Rattle.sja_plan.specs.Plan.{steps_at}
-use Rattle.sja_script.specs.declared.step.Step.{Step}
-use Rattle.sja_wire.specs.Wire.{journal_at}
-use Rattle.sja_threads.specs.Needed.{most_awaited}
-use Rattle.sja_threads.specs.Ordering.{HasBegun}
+use Rattle.sja_steps.specs.declared.step.Step.{Step}
+use Rattle.sja_bus_rules.specs.Wire.{journal_at}
+use Rattle.sja_thread_promises.specs.Needed.{most_awaited}
+use Rattle.sja_thread_promises.specs.Ordering.{HasBegun}
 use Rattle.sja_threads.specs.Inside.Boards.{turns_at, turns_in}
 use Rattle.sja_threads.proofs.Twin.Boards.{ended_at}
 use Rattle.sja_threads.proofs.bus_thread.all_begun.Goals as goal

@@ -1,10 +1,10 @@
 use Rattle.std.proofs.Common.{ℕ, length, refl, sym, ap, ◌∙◌, subst}
 use Rattle.sja_regs.specs.DriverSettings.{SettingsValue, settings_in}
 use Rattle.sja_regs.specs.Registers.{at_power_on}
-use Rattle.sja_driver.specs.Accesses.{by_bytes}
+use Rattle.sja_driver.specs.StepRuns.{by_bytes}
 use Rattle.sja_driver.specs.LoggedDrivers.{node_of, log_of}
 use Rattle.sja_driver.specs.Logs.{KeepsLog, done_in}
-use Rattle.sja_threads.specs.Asking.{IsLet}
+use Rattle.sja_thread_promises.specs.Asking.{IsLet}
 use Rattle.sja_threads.specs.Working.{HasWorked}
 use Rattle.sja_threads.specs.Inside.Names.{IsNamed}
 use Rattle.sja_threads.specs.Inside.Steps.{MayBegin}
@@ -55,9 +55,9 @@ returns-clause-worked g c =
 
 pub returns-clause-named : goal.returns-clause-named
 returns-clause-named g c =
-    subst (λ w. IsNamed g.N.Order.deeds c.args.done.node w.done.name)
+    subst (λ w. IsNamed g.N.Order.acts c.args.done.node w.done.name)
     (sym c.hand_back.ensures)
-    (subst (λ (n : ℕ). IsNamed g.N.Order.deeds n c.do_steps.new.self.done.known.name) c.do_steps.ensures.ended.does.same
+    (subst (λ (n : ℕ). IsNamed g.N.Order.acts n c.do_steps.new.self.done.known.name) c.do_steps.ensures.ended.does.same
     c.do_steps.new.self.done.named)
 
 pub returns-clause-keeps : goal.returns-clause-keeps

@@ -1,7 +1,7 @@
 use Rattle.std.proofs.Common.{length, subst}
 use Rattle.sja_driver.specs.LoggedDrivers.{log_of}
 use Rattle.sja_driver.specs.Logs.{done_in}
-use Rattle.sja_threads.specs.Asking.{IsLet}
+use Rattle.sja_thread_promises.specs.Asking.{IsLet}
 use Rattle.sja_threads.proofs.driver_thread.work.Goals as goal
 
 pub returns-clause-let_by : goal.returns-clause-let_by

@@ -2,8 +2,8 @@ use Rattle.std.proofs.Common.{rules, ◌≡◌, ◌∷◌, ◌++◌, ◌+◌, �
 use Rattle.std.specs.Vec.Iter.{into_iter_items}
 use Rattle.std.proofs.lemmas.List.{map_more}
 use Rattle.lemmas.specs.Related.{EachRelated}
-use Rattle.sja_log.proofs.NodeLog.Logging.{next_of}
-use Rattle.sja_threads.specs.Asking.{IsLet}
+use Rattle.sja_promises.proofs.NodeLog.Logging.{next_of}
+use Rattle.sja_thread_promises.specs.Asking.{IsLet}
 use Rattle.sja_threads.specs.Inside.Promised.{IsPromised}
 use Rattle.lemmas.proofs.Related.{related_push}
 use Rattle.sja_threads.proofs.joined_run.join_all.Goals as goal

@@ -1,7 +1,7 @@
 use Rattle.std.proofs.Common.{◌≡◌, ◌≤◌, ◌+◌, map, take, drop, vec_len, vec_capacity}
 use Rattle.std.specs.Vec.Iter.{into_iter_items, into_iter_len}
 use Rattle.lemmas.specs.Related.{EachRelated}
-use Rattle.sja_threads.specs.Asking.{IsLet}
+use Rattle.sja_thread_promises.specs.Asking.{IsLet}
 use Rattle.sja_threads.specs.Inside.Promised.{IsPromised}
 use Rattle.sja_threads.proofs.joined_run.join_all.Given as goal
 

@@ -1,6 +1,6 @@
 use Rattle.std.proofs.Common.{List, ap, arith}
-use Rattle.sja_script.specs.declared.step.Step.{Step}
-use Rattle.sja_threads.specs.Needed.{most_awaited}
+use Rattle.sja_steps.specs.declared.step.Step.{Step}
+use Rattle.sja_thread_promises.specs.Needed.{most_awaited}
 use Rattle.sja_threads.proofs.Rounds.Awaited.{last_next}
 use Rattle.sja_threads.proofs.last_awaited.last_awaited.Goals as goal
 

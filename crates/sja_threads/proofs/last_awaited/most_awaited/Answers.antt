@@ -1,6 +1,6 @@
 use Rattle.std.proofs.Common.{ap, arith}
-use Rattle.sja_script.specs.declared.step.Step.{Step}
-use Rattle.sja_threads.specs.Needed.{bits_awaited}
+use Rattle.sja_steps.specs.declared.step.Step.{Step}
+use Rattle.sja_thread_promises.specs.Needed.{bits_awaited}
 use Rattle.sja_threads.proofs.Rounds.Awaited.{most_next}
 use Rattle.sja_threads.proofs.last_awaited.most_awaited.Goals as goal
 

@@ -1,5 +1,5 @@
 use Rattle.std.proofs.Common.{◌≡◌, take}
-use Rattle.sja_threads.specs.Needed.{most_awaited}
+use Rattle.sja_thread_promises.specs.Needed.{most_awaited}
 use Rattle.sja_threads.proofs.last_awaited.most_awaited.Given as goal
 
 abbrev pub invariant-loop-step : goal.invariant-loop-step

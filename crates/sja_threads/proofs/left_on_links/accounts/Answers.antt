@@ -1,5 +1,5 @@
 use Rattle.rtrb.specs.Ring.{received, sent}
-use Rattle.sja_link.specs.Lists.{Lists}
+use Rattle.sja_journal.specs.Lists.{Lists}
 use Rattle.std.proofs.Common.{◌≡◌, false, true, inl, refl, subst, sym}
 use Rattle.std.specs.Prelude.{IsOk}
 use Rattle.sja_threads.proofs.left_on_links.accounts.Goals as goal

@@ -8,7 +8,7 @@ use Rattle.std.specs.Vec.Iter.{into_iter_items}
 use Rattle.sja_link.specs.declared.older_down.OlderDown.{OlderDown}
 use Rattle.sja_link.specs.Deques.{left_on}
 use Rattle.sja_rings.specs.NodeRings.{OneNode}
-use Rattle.sja_log.proofs.NodeLog.Logging.{next_of}
+use Rattle.sja_promises.proofs.NodeLog.Logging.{next_of}
 use Rattle.sja_threads.specs.Inside.Settling.{IsLeftOnAll, AreLeftOn, SomeUnsettled}
 use Rattle.sja_threads.proofs.End.CameFrom.{unsettled_node}
 use Rattle.sja_threads.proofs.End.GoneThrough.{all_gone, both_next, next_both}

@@ -2,9 +2,9 @@ use Rattle.std.proofs.Common.{rules, ◌≡◌, false, true, List, [], ◌++◌,
 use Rattle.std.proofs.lemmas.Bool.{eqb-false}
 use Rattle.std.specs.Prelude.{IsOk}
 use Rattle.rtrb.specs.Ring.{received, sent}
-use Rattle.sja_link.specs.declared.down.Down.{Down}
-use Rattle.sja_link.specs.Lists.{Lists}
-use Rattle.sja_log.specs.LeftDown.{on_link}
+use Rattle.sja_journal.specs.declared.down.Down.{Down}
+use Rattle.sja_journal.specs.Lists.{Lists}
+use Rattle.sja_promises.specs.LeftDown.{on_link}
 use Rattle.sja_threads.proofs.End.GoneThrough.{some_left}
 use Rattle.sja_threads.proofs.left_on_links.settle_link.Goals as goal
 

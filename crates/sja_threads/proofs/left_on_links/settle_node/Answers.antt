@@ -8,7 +8,7 @@ use Rattle.std.specs.Vec.Iter.{into_iter_items}
 use Rattle.sja_link.specs.declared.older_down.OlderDown.{OlderDown}
 use Rattle.sja_rings.specs.Ends.{OneLink}
 use Rattle.sja_rings.specs.NodeRings.{rings_of_bus, rings_of_driver}
-use Rattle.sja_log.proofs.NodeLog.Logging.{next_of}
+use Rattle.sja_promises.proofs.NodeLog.Logging.{next_of}
 use Rattle.sja_threads.specs.Inside.Settling.{IsLeftOn, LeavesUnsettled}
 use Rattle.sja_threads.proofs.End.CameFrom.{unsettled_link}
 use Rattle.sja_threads.proofs.End.GoneThrough.{all_gone, both_next, next_both, none_beside, related_at}

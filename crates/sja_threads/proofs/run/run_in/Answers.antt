@@ -2,13 +2,13 @@ use Rattle.std.proofs.Common.{rules, ◌≡◌, ◌≤◌, length, map, vec_len,
 use Rattle.std.specs.Prelude.{vec_capacity}
 use Rattle.std.proofs.lemmas.List.{length-map}
 use Rattle.std.proofs.lemmas.Slice.Zip.{AllZip-long}
-use Rattle.sja_wire.specs.Buses.{BusValue}
-use Rattle.sja_threads.specs.Asking.{IsLet}
-use Rattle.sja_threads.specs.Stopping.{deed_counts}
+use Rattle.sja_bus_rules.specs.Buses.{BusValue}
+use Rattle.sja_thread_promises.specs.Asking.{IsLet}
+use Rattle.sja_thread_promises.specs.Stopping.{act_counts}
 use Rattle.sja_threads.specs.Inside.Promised.{IsFor, StopsFor}
-use Rattle.sja_wire.specs.Wire.{journal_at}
-use Rattle.sja_wire.proofs.Wires.{no_journal}
-use Rattle.sja_threads.specs.Ordering.{closed_told}
+use Rattle.sja_bus_rules.specs.Wire.{journal_at}
+use Rattle.sja_bus_rules.proofs.Wires.{no_journal}
+use Rattle.sja_thread_promises.specs.Ordering.{closed_told}
 use Rattle.sja_threads.specs.Inside.Boards.{turns_in}
 use Rattle.sja_threads.proofs.End.EndsJoined.{stopped_beside}
 use Rattle.sja_threads.proofs.End.RunOver.{all_done, all_named}
@@ -36,7 +36,7 @@ pub rounds_beside_drivers-requires-clause-way : goal.rounds_beside_drivers-requi
 rounds_beside_drivers-requires-clause-way g c =
     let parts = c.args.parts in
     let r = c.requires.parts in
-    begins c.args.plan.now parts.bus parts.starts.items (deed_counts c.args.plan.now) r.bus r.links r.run r.spent
+    begins c.args.plan.now parts.bus parts.starts.items (act_counts c.args.plan.now) r.bus r.links r.run r.spent
     r.starts r.made
 
 pub returns-in-Ok-rounds_beside_drivers-clause-ending : goal.returns-in-Ok-rounds_beside_drivers-clause-ending
@@ -117,6 +117,6 @@ returns-in-Ok-rounds_beside_drivers-clause-order g c =
       ended = c.in-Ok-rounds_beside_drivers.ensures.ended;
       named = all_named (IsLet g.G.Gate.QUITS g.G.Gate.answered) plan starts c.join_all-workeds.result.items parts.bus
           c.rounds_beside_drivers.new.self
-          r.starts r.links r.made g.N.Order.version g.N.Order.deeds c.requires.order
+          r.starts r.links r.made g.N.Order.version g.N.Order.acts c.requires.order
           (all_done (IsLet g.G.Gate.QUITS g.G.Gate.answered) plan starts c.join_all-workeds.result.items served);
     }

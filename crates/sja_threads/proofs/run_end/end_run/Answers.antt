@@ -1,16 +1,16 @@
 use Rattle.std.proofs.Common.{rules, ◌≡◌, ℕ, List, length, map, sym, ap, subst, arith}
 use Rattle.std.specs.Prelude.{◌⊎◌, IfErr}
 use Rattle.lemmas.proofs.Lists.{some_of}
-use Rattle.sja_driver.specs.Deeds.{Deed}
+use Rattle.sja_driver.specs.TypedActs.{TypedAct}
 use Rattle.sja_log.specs.declared.run_fault.RunFault.TheVariants.{Memory, Unsettled}
-use Rattle.sja_log.specs.Runs.{IsRun}
-use Rattle.sja_threads.specs.Accessing.{Work, deeds_done}
+use Rattle.sja_promises.specs.Runs.{IsRun}
+use Rattle.sja_thread_promises.specs.Accessing.{Work, acts_done}
 use Rattle.sja_threads.specs.Inside.Boards.{turns_in}
 use Rattle.sja_threads.specs.Inside.EndsInOrder.{AreInOrder}
 use Rattle.sja_threads.specs.Inside.Ended.{IsOver}
 use Rattle.sja_threads.specs.Inside.Settling.{IsSettledLog, SomeUnsettled, all_ends}
 use Rattle.sja_threads.proofs.End.EndsJoined.{stopped_after}
-use Rattle.sja_threads.specs.Asking.{AtNode, IsLet}
+use Rattle.sja_thread_promises.specs.Asking.{AtNode, IsLet}
 use Rattle.sja_threads.proofs.End.Unsettled.{fault_of, unsettled_run}
 use Rattle.sja_threads.proofs.End.ThreadedRun.{threaded, if_both, let_by}
 use Rattle.sja_threads.proofs.run_end.end_run.Goals as goal
@@ -19,9 +19,9 @@ pub settled_log-requires-clause-over : goal.settled_log-requires-clause-over
 settled_log-requires-clause-over g c =
     let ending = c.requires.ending in
     let t = c.rounds_after_drivers.new.self in
-    let deeds : List (List Deed) = map (λ (w : Work). deeds_done w) ending.works in (
-      deeds,
-      subst (λ l. IsOver c.args.plan.now t.bus t.links.items l deeds) (sym c.compare_all.ensures.workeds)
+    let acts : List (List TypedAct) = map (λ (w : Work). acts_done w) ending.works in (
+      acts,
+      subst (λ l. IsOver c.args.plan.now t.bus t.links.items l acts) (sym c.compare_all.ensures.workeds)
           (ending.over t c.in-Ok.ensures.ends.on),
     )
 
@@ -39,7 +39,7 @@ returns-in-Ok-clause-run g c =
     if_both c.settled_log.result
     (λ log run is. threaded g.G.Gate.QUITS g.G.Gate.answered c.args.asked.value.items plan c.args.joined t
     c.in-Ok.end log c.requires.ending c.in-Ok.ensures.ends
-    (subst (λ l. (deeds : List (List Deed)) → IsOver plan t.bus t.links.items l deeds → IsRun plan log deeds) same run)
+    (subst (λ l. (acts : List (List TypedAct)) → IsOver plan t.bus t.links.items l acts → IsRun plan log acts) same run)
     (subst (λ l. IsSettledLog t.bus l c.in-Ok.end log) same is)
     (turns_in c.rounds_after_drivers.new.board.told.items) (c.in-Ok.ensures.told c.requires.order.told)
     (c.in-Ok.ensures.closed c.requires.order.closed)
@@ -57,7 +57,7 @@ returns-in-Ok-clause-let_by g c =
     if_both c.settled_log.result
     (λ log run is. let_by g.G.Gate.QUITS g.G.Gate.answered c.args.asked.value.items plan c.args.joined t
     c.in-Ok.end log c.requires.ending c.in-Ok.ensures.ends
-    (subst (λ l. (deeds : List (List Deed)) → IsOver plan t.bus t.links.items l deeds → IsRun plan log deeds) same run)
+    (subst (λ l. (acts : List (List TypedAct)) → IsOver plan t.bus t.links.items l acts → IsRun plan log acts) same run)
     (subst (λ l. IsSettledLog t.bus l c.in-Ok.end log) same is)
     (turns_in c.rounds_after_drivers.new.board.told.items) (c.in-Ok.ensures.told c.requires.order.told)
     (c.in-Ok.ensures.closed c.requires.order.closed)

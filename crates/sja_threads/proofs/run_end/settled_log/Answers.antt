@@ -6,8 +6,8 @@ use Rattle.sja_rings.specs.declared.node_driver.NodeDriver.{NodeDriver}
 use Rattle.sja_rings.specs.NodeRings.{OneNode}
 use Rattle.sja_driver.specs.declared.logged_driver.LoggedDriver.{LoggedDriver}
 use Rattle.sja_driver.specs.LoggedDrivers.{IsLawful}
-use Rattle.sja_log.specs.Finishing.{AreNodeEnds, KeepLogs}
-use Rattle.sja_log.specs.LeftDown.{left_of}
+use Rattle.sja_promises.specs.Finishing.{AreNodeEnds, KeepLogs}
+use Rattle.sja_promises.specs.LeftDown.{left_of}
 use Rattle.sja_log.specs.Log.{NodeValue, RunValue}
 use Rattle.sja_threads.specs.Inside.Settling.{all_drivers, AreLeftOn}
 use Rattle.sja_threads.proofs.End.LinksOver.{ends_count, joined_over, one_node, all_keep, all_lawful, record_kept}
@@ -85,10 +85,10 @@ log_parts c right =
     }
 
 pub returns-in-Ok-node_runs-clause-run : goal.returns-in-Ok-node_runs-clause-run
-returns-in-Ok-node_runs-clause-run c = λ deeds over.
+returns-in-Ok-node_runs-clause-run c = λ acts over.
     let m = log_parts (goal.at.returns-in-Ok-node_runs-clause-run c).After-of-in-Ok-node_runs over.right in
     run_over c.args.plan.now c.args.bus.bus c.args.bus.links.items c.args.workeds.items c.args.end
-    c.of-in-Ok-node_runs.result c.in-Ok.logs.items c.in_ok-lists.lists.items m deeds over
+    c.of-in-Ok-node_runs.result c.in-Ok.logs.items c.in_ok-lists.lists.items m acts over
 
 pub returns-in-Ok-node_runs-clause-log : goal.returns-in-Ok-node_runs-clause-log
 returns-in-Ok-node_runs-clause-log c =

@@ -3,7 +3,7 @@ use Rattle.std.specs.Prelude.{slice_index_or}
 use Rattle.sja_rings.specs.declared.node_bus.NodeBus.{NodeBus}
 use Rattle.sja_rings.specs.declared.node_driver.NodeDriver.{NodeDriver}
 use Rattle.sja_rings.specs.NodeRings.{OneNode}
-use Rattle.sja_threads.specs.Stopping.{IsFaultOf}
+use Rattle.sja_thread_promises.specs.Stopping.{IsFaultOf}
 use Rattle.sja_threads.specs.Inside.Settling.{AllCameFrom, SomeUnsettled}
 use Rattle.sja_threads.proofs.End.CameFrom.{stops_with}
 use Rattle.sja_threads.proofs.End.Unsettled.{unsettled_run}

@@ -2,7 +2,7 @@ use Rattle.std.proofs.Common.{rules, ◌≡◌, ◌+◌, ◌++◌, ◌∷◌, []
 use Rattle.std.proofs.Common.{ap, ◌∙◌, subst, arith}
 use Rattle.std.specs.Vec.Iter.{into_iter_items}
 use Rattle.std.proofs.lemmas.List.{map_push, take_more}
-use Rattle.sja_log.proofs.NodeLog.Logging.{next_of}
+use Rattle.sja_promises.proofs.NodeLog.Logging.{next_of}
 use Rattle.sja_plan.specs.Plan.{steps_at}
 use Rattle.sja_threads.specs.Inside.Making.{AreListed, AreMade}
 use Rattle.sja_threads.proofs.Start.Making.{listed_push, made_of, made_push, short_log}

@@ -5,7 +5,7 @@ use Rattle.sja_regs.specs.Registers.{at_power_on}
 use Rattle.sja_plan.specs.Plan.{steps_at}
 use Rattle.sja_driver.specs.LoggedDrivers.{log_of}
 use Rattle.sja_driver.specs.Logs.{done_in}
-use Rattle.sja_threads.specs.Asking.{IsLet}
+use Rattle.sja_thread_promises.specs.Asking.{IsLet}
 use Rattle.sja_threads.specs.Working.{HasWorked}
 use Rattle.sja_threads.specs.Inside.Names.{IsNamed}
 use Rattle.sja_threads.proofs.Start.Threads.{served_by}
@@ -22,8 +22,8 @@ returns g c =
     (IsLet g.G.Gate.QUITS g.G.Gate.answered) w
     (ap (λ v. settings_in (at_power_on v)) (d.version ∙ c.version.ensures.value))
     (c.steps-steps.ensures.value ∙ ap (λ n. steps_at c.args.plan.now n) c.from.ensures) f.same
-    (same_name g.N.Order.deeds s.node w.done.name s.done.name
-    (subst (λ (n : ℕ). IsNamed g.N.Order.deeds n w.done.name) d.node f.named) c.requires.order.1)
+    (same_name g.N.Order.acts s.node w.done.name s.done.name
+    (subst (λ (n : ℕ). IsNamed g.N.Order.acts n w.done.name) d.node f.named) c.requires.order.1)
     (subst (λ (n : ℕ). HasWorked NodeDriverLists (settings_in (at_power_on c.new-done.result.version)) n
     c.steps-steps.result.now s.end w w.done.list) d.node f.worked)
     (subst (λ (n : ℕ). IsLet g.G.Gate.QUITS g.G.Gate.answered s.gate n (length c.steps-steps.result.now)

@@ -2,7 +2,7 @@ use Rattle.std.proofs.Common.{rules, ◌≡◌, ◌∷◌, ◌++◌, ◌+◌, �
 use Rattle.std.specs.Vec.Iter.{into_iter_items}
 use Rattle.std.proofs.lemmas.List.{map_push, take_more}
 use Rattle.lemmas.specs.Related.{EachRelated}
-use Rattle.sja_log.proofs.NodeLog.Logging.{next_of}
+use Rattle.sja_promises.proofs.NodeLog.Logging.{next_of}
 use Rattle.std.specs.Prelude.{All}
 use Rattle.sja_threads.specs.Inside.Promised.{IsFor}
 use Rattle.sja_threads.specs.Inside.Started.{IsThreadStart, AreOrdered}
@@ -38,7 +38,7 @@ loop-start-preserved g c =
       rest = sym (next_of starts left n start start is).1;
       starts = starts_rest c.args.plan.now (into_iter_items c.loop-start.start-iterator) left start
           c.in-Some.ensures.steps.0 inv.starts;
-      order = order_rest g.N.Order.version g.N.Order.deeds c.args.plan.now.version
+      order = order_rest g.N.Order.version g.N.Order.acts c.args.plan.now.version
           (into_iter_items c.loop-start.start-iterator) left start c.in-Some.ensures.steps.0 inv.order;
       started = started_next (IsFor c.args.plan.now) (λ child. child.promise) n starts left start
           c.loop-start.children.items c.push_reserved.new.self.items c.in_ok-child.child is
@@ -54,7 +54,7 @@ loop-start-init g c =
       room = search rules;
       rest = rest;
       starts = subst (λ l. All (IsThreadStart c.args.plan.now) l) (sym rest) c.requires.starts;
-      order = subst (λ l. AreOrdered g.N.Order.version g.N.Order.deeds c.args.plan.now.version l) (sym rest)
+      order = subst (λ l. AreOrdered g.N.Order.version g.N.Order.acts c.args.plan.now.version l) (sym rest)
           c.requires.order;
       started = subst (λ l. EachRelated (IsFor c.args.plan.now) [] (map (λ child. child.promise) l))
           (sym c.requires.none) tt;
@@ -67,5 +67,5 @@ start_one-requires-clause-start g c κs within =
 
 pub start_one-requires-clause-order : goal.start_one-requires-clause-order
 start_one-requires-clause-order g c κs within =
-    let those = subst (λ l. AreOrdered g.N.Order.version g.N.Order.deeds c.args.plan.now.version l)
+    let those = subst (λ l. AreOrdered g.N.Order.version g.N.Order.acts c.args.plan.now.version l)
     c.in-Some.ensures.steps.0 c.loop-start.invariant.order in those 0 c.in-Some.start (omega arith)

@@ -13,6 +13,6 @@ invariant-loop-start g l = record {
   room : length l.ports ≤ vec_capacity l.children;
   rest : into_iter_items l.start-iterator ≡ drop l.next l.fn.starts.items;
   starts : All (IsThreadStart l.plan) (into_iter_items l.start-iterator);
-  order : AreOrdered g.N.Order.version g.N.Order.deeds l.plan.version (into_iter_items l.start-iterator);
+  order : AreOrdered g.N.Order.version g.N.Order.acts l.plan.version (into_iter_items l.start-iterator);
   started : EachRelated (IsFor l.plan) (take l.next l.fn.starts.items) (map (λ child. child.promise) l.children.items);
 }

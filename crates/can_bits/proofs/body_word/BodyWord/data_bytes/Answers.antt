@@ -1,11 +1,11 @@
 use Rattle.std.proofs.Common.{◌≡◌, ◌+◌, ◌*◌, ◌≤◌, ◌<◌, ◌∙◌, ◌∷◌, [], ℕ, List}
 use Rattle.std.proofs.Common.{length, slice_range, ap, sym, subst, arith, All}
 use Rattle.std.proofs.lemmas.List.Elements.{All-nil, All-cons, All-append}
-use Rattle.can_bits.specs.Digits.{value}
-use Rattle.can_bits.specs.Inside.Data.{data_place}
-use Rattle.can_bits.proofs.Whole.Bytes.{Writes}
-use Rattle.can_bits.proofs.SaidCounts.{whole_has_fields}
-use Rattle.can_bits.proofs.Packing.Frames.{first_levels, no_bytes, byte_more}
+use Rattle.can_levels.specs.Digits.{value}
+use Rattle.can_levels.specs.DataBits.{data_place}
+use Rattle.can_levels.proofs.Whole.Bytes.{Writes}
+use Rattle.can_levels.proofs.SaidCounts.{whole_has_fields}
+use Rattle.can_levels.proofs.Packing.Frames.{first_levels, no_bytes, byte_more}
 use Rattle.can_bits.proofs.body_word.BodyWord.data_bytes.Goals as goal
 
 pub loop-k-init : goal.loop-k-init

@@ -1,9 +1,9 @@
 use Rattle.std.proofs.Common.{◌≡◌, ◌<◌, List, length, All}
-use Rattle.can_bits.specs.declared.level.Level.{Level}
-use Rattle.can_bits.specs.Inside.Data.{IsWhole}
+use Rattle.can_levels.specs.declared.level.Level.{Level}
+use Rattle.can_levels.specs.DataBits.{IsWhole}
 use Rattle.can_bits.specs.Packing.{Packs}
-use Rattle.can_bits.proofs.Whole.Bytes.{Writes}
-use Rattle.can_bits.proofs.Packing.Frames.{first_levels}
+use Rattle.can_levels.proofs.Whole.Bytes.{Writes}
+use Rattle.can_levels.proofs.Packing.Frames.{first_levels}
 use Rattle.can_bits.proofs.body_word.BodyWord.data_bytes.Given as goal
 
 -- the first k bytes were pushed

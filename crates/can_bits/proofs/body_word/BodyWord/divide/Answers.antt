@@ -1,6 +1,6 @@
 use Rattle.std.proofs.Common.{◌≡◌, ◌*◌, ◌+◌, ◌%◌, arith}
-use Rattle.can_bits.specs.Check.{IsMultiple}
-use Rattle.can_bits.specs.Digits.{value}
+use Rattle.can_levels.specs.Check.{IsMultiple}
+use Rattle.can_levels.specs.Digits.{value}
 use Rattle.can_bits.proofs.body_word.BodyWord.divide.Goals as goal
 
 pub returns-clause-divides : goal.returns-clause-divides

@@ -1,7 +1,7 @@
 use Rattle.std.proofs.Common.{◌≡◌, ◌+◌, ◌-◌, ◌∙◌, slice_range, ap, sym, arith}
-use Rattle.can_bits.specs.Digits.{value}
-use Rattle.can_bits.specs.Fields.{says_ext, dlc_place}
-use Rattle.can_bits.proofs.Whole.Decoding.{four_is}
+use Rattle.can_levels.specs.Digits.{value}
+use Rattle.can_levels.specs.Fields.{says_ext, dlc_place}
+use Rattle.can_levels.proofs.Whole.Decoding.{four_is}
 use Rattle.can_bits.proofs.body_word.BodyWord.dlc.Goals as goal
 
 pub returns-clause-value : goal.returns-clause-value

@@ -2,10 +2,10 @@ use Rattle.std.proofs.Common.{◌≡◌, ◌≢◌, Err, Some, ap, ◌∙◌, le
 use Rattle.can_frame.specs.Frame.{data_count, id_limit}
 use Rattle.can_frame.specs.declared.frame_fault.FrameFault.{FrameFault}
 use Rattle.can_frame.specs.declared.frame_fault.FrameFault.TheVariants.{IdRange, DlcRange, DataLength}
-use Rattle.can_bits.specs.Fields.{says_rtr}
-use Rattle.can_bits.proofs.SaidCounts.{whole_of, whole_has_fields}
-use Rattle.can_bits.proofs.Whole.Decoding.{said_frame, says_id-lt}
-use Rattle.can_bits.proofs.Packing.Frames.{said_is}
+use Rattle.can_levels.specs.Fields.{says_rtr}
+use Rattle.can_levels.proofs.SaidCounts.{whole_of, whole_has_fields}
+use Rattle.can_levels.proofs.Whole.Decoding.{said_frame, says_id-lt}
+use Rattle.can_levels.proofs.Packing.Frames.{said_is}
 use Rattle.can_bits.proofs.body_word.BodyWord.frame.Goals as goal
 
 pub returns-in-Ok : goal.returns-in-Ok

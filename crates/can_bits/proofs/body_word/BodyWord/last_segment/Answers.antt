@@ -1,6 +1,6 @@
 use Rattle.std.proofs.Common.{◌≡◌, ◌-◌, ◌∙◌, ap, length, arith}
-use Rattle.can_bits.specs.Fields.{says_ext}
-use Rattle.can_bits.specs.Segments.{segment_in, segments_of}
+use Rattle.can_levels.specs.Fields.{says_ext}
+use Rattle.can_levels.specs.Segments.{segment_in, segments_of}
 use Rattle.can_bits.specs.Inside.Gathering.{mark_of}
 use Rattle.can_bits.proofs.Packing.Marks.{mark_segment}
 use Rattle.can_bits.proofs.body_word.BodyWord.last_segment.Goals as goal

@@ -1,5 +1,5 @@
 use Rattle.std.proofs.Common.{◌≡◌, ◌-◌, ◌/◌, ◌%◌, ◌^◌, ◌==◌, ◌∙◌, length, ap, arith}
-use Rattle.can_bits.specs.Digits.{level_of, value}
+use Rattle.can_levels.specs.Digits.{level_of, value}
 use Rattle.can_bits.proofs.Packing.Numbers.{level_packed}
 use Rattle.can_bits.proofs.body_word.BodyWord.level_at.Goals as goal
 

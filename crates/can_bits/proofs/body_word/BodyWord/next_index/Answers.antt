@@ -1,7 +1,7 @@
 use Rattle.std.proofs.Common.{◌∙◌, ap, length, arith}
-use Rattle.can_bits.specs.Fields.{says_ext}
-use Rattle.can_bits.specs.Segments.{segments_of}
-use Rattle.can_bits.specs.FramePlaces.{index_in}
+use Rattle.can_levels.specs.Fields.{says_ext}
+use Rattle.can_levels.specs.Segments.{segments_of}
+use Rattle.can_levels.specs.FramePlaces.{index_in}
 use Rattle.can_bits.specs.Inside.Gathering.{mark_of}
 use Rattle.can_bits.proofs.Packing.Marks.{mark_index}
 use Rattle.can_bits.proofs.body_word.BodyWord.next_index.Goals as goal

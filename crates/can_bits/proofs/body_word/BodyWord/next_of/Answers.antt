@@ -1,5 +1,5 @@
 use Rattle.std.proofs.Common.{Option, ap, ◌∙◌}
-use Rattle.can_bits.specs.declared.level.Level.{Level}
+use Rattle.can_levels.specs.declared.level.Level.{Level}
 use Rattle.can_bits.specs.Sending.{or_crc}
 use Rattle.can_bits.proofs.PackedLevels.{packed_next}
 use Rattle.can_bits.proofs.body_word.BodyWord.next_of.Goals as goal

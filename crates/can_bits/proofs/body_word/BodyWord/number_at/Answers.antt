@@ -1,6 +1,6 @@
 use Rattle.std.proofs.Common.{◌≡◌, ◌+◌, ◌-◌, ◌*◌, ◌/◌, ◌%◌, ◌^◌, ◌∙◌, ◌≤◌, ℕ, length, ap, arith}
 use Rattle.std.proofs.Math.Pow.{pow_mono}
-use Rattle.can_bits.specs.Digits.{value}
+use Rattle.can_levels.specs.Digits.{value}
 use Rattle.can_bits.proofs.Packing.Numbers.{value_range}
 use Rattle.can_bits.proofs.body_word.BodyWord.number_at.Goals as goal
 

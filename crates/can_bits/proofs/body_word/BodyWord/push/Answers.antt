@@ -1,7 +1,7 @@
 use Rattle.std.proofs.Common.{◌∙◌, ◌≤◌, ◌∷◌, ◌++◌, [], inl, inr, length, arith, subst, sym}
 use Rattle.std.proofs.lemmas.Bool.{cases_lt}
 use Rattle.can_bits.specs.declared.body_word.BodyWord.{BodyWord}
-use Rattle.can_bits.specs.Inside.Data.{data_place}
+use Rattle.can_levels.specs.DataBits.{data_place}
 use Rattle.can_bits.specs.Inside.Gathering.{Gathers}
 use Rattle.can_bits.proofs.Packing.Marks.{mark_least, mark_past}
 use Rattle.can_bits.proofs.Packing.Pushes.{grown, push_stays}

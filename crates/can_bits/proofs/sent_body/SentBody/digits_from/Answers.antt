@@ -1,7 +1,7 @@
 use Rattle.std.proofs.Common.{◌≡◌, ◌+◌, ◌-◌, ◌%◌, ◌==◌, Some, ap, sym, arith}
 use Rattle.std.proofs.lemmas.Bool.{lt-ltb}
-use Rattle.can_bits.specs.Digits.{level_of}
-use Rattle.can_bits.proofs.Packing.Words.{digit_from}
+use Rattle.can_levels.specs.Digits.{level_of}
+use Rattle.can_levels.proofs.Packing.Words.{digit_from}
 use Rattle.can_bits.proofs.sent_body.SentBody.digits_from.Goals as goal
 
 pub returns-then-place-self : goal.returns-then-place-self

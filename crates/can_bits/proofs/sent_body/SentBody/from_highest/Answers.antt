@@ -1,7 +1,7 @@
 use Rattle.std.proofs.Common.{◌≡◌, ◌-◌, ◌%◌, ◌==◌, Some, ap, sym, arith}
 use Rattle.std.proofs.lemmas.Bool.{lt-ltb}
-use Rattle.can_bits.specs.Digits.{level_of}
-use Rattle.can_bits.proofs.Packing.Words.{digit_from_top}
+use Rattle.can_levels.specs.Digits.{level_of}
+use Rattle.can_levels.proofs.Packing.Words.{digit_from_top}
 use Rattle.can_bits.proofs.sent_body.SentBody.from_highest.Goals as goal
 
 pub returns : goal.returns

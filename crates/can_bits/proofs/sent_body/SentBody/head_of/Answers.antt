@@ -2,12 +2,12 @@ use Rattle.std.proofs.Common.{◌≡◌, ◌+◌, ◌*◌, ◌/◌, ◌%◌, ◌
 use Rattle.std.proofs.Common.{true, false, List, length, ap, refl, sym, subst, arith}
 use Rattle.std.proofs.lemmas.List.{length-append}
 use Rattle.can_frame.specs.Frame.{id_limit}
-use Rattle.can_bits.specs.declared.level.Level.{Level}
-use Rattle.can_bits.specs.declared.level.Level.TheVariants.{Dominant, Recessive}
-use Rattle.can_bits.specs.Digits.{digit, level_of, bits}
-use Rattle.can_bits.specs.Body.{head_bits}
+use Rattle.can_levels.specs.declared.level.Level.{Level}
+use Rattle.can_levels.specs.declared.level.Level.TheVariants.{Dominant, Recessive}
+use Rattle.can_levels.specs.Digits.{digit, level_of, bits}
+use Rattle.can_levels.specs.Body.{head_bits}
 use Rattle.can_bits.specs.Packing.{Packs}
-use Rattle.can_bits.proofs.Values.{digit-lt, length-bits, value-append-bits}
+use Rattle.can_levels.proofs.Values.{digit-lt, length-bits, value-append-bits}
 use Rattle.can_bits.proofs.Packing.Bodies.{packs_start, bits_digit, head_standard, head_extended}
 use Rattle.can_bits.proofs.sent_body.SentBody.head_of.Goals as goal
 

@@ -3,15 +3,15 @@ use Rattle.std.proofs.Common.{take, ap, sym, subst, arith, append_assoc}
 use Rattle.std.specs.List.{flat_map}
 use Rattle.std.proofs.lemmas.List.{append-nil, length-append, length-take-le, take_all}
 use Rattle.can_frame.specs.Frame.{FrameValue}
-use Rattle.can_bits.specs.declared.level.Level.{Level}
-use Rattle.can_bits.specs.declared.level.Level.TheVariants.{Dominant, Recessive}
-use Rattle.can_bits.specs.Digits.{bits}
-use Rattle.can_bits.specs.Body.{head_bits}
+use Rattle.can_levels.specs.declared.level.Level.{Level}
+use Rattle.can_levels.specs.declared.level.Level.TheVariants.{Dominant, Recessive}
+use Rattle.can_levels.specs.Digits.{bits}
+use Rattle.can_levels.specs.Body.{head_bits}
 use Rattle.can_bits.specs.Packing.{Packs}
-use Rattle.can_bits.proofs.Values.{length-bits}
-use Rattle.can_bits.proofs.Whole.Bytes.{length_bytes}
-use Rattle.can_bits.proofs.SaidCounts.{length_head}
-use Rattle.can_bits.proofs.Packing.Frames.{count_most}
+use Rattle.can_levels.proofs.Values.{length-bits}
+use Rattle.can_levels.proofs.Whole.Bytes.{length_bytes}
+use Rattle.can_levels.proofs.SaidCounts.{length_head}
+use Rattle.can_levels.proofs.Packing.Frames.{count_most}
 use Rattle.can_bits.proofs.Packing.Bodies.{sent_more, dlc_place-most}
 use Rattle.can_bits.proofs.sent_body.SentBody.of.Goals as goal
 

@@ -1,8 +1,8 @@
 use Rattle.std.proofs.Common.{◌++◌, take}
 use Rattle.std.specs.List.{flat_map}
-use Rattle.can_bits.specs.declared.level.Level.TheVariants.{Dominant, Recessive}
-use Rattle.can_bits.specs.Digits.{bits}
-use Rattle.can_bits.specs.Body.{head_bits}
+use Rattle.can_levels.specs.declared.level.Level.TheVariants.{Dominant, Recessive}
+use Rattle.can_levels.specs.Digits.{bits}
+use Rattle.can_levels.specs.Body.{head_bits}
 use Rattle.can_bits.specs.Packing.{Packs}
 use Rattle.can_bits.proofs.sent_body.SentBody.of.Given as goal
 

@@ -1,6 +1,6 @@
 use Rattle.std.proofs.Common.{◌≡◌, Bool, IsTrue, ◌++◌, ◌∷◌, [], true, false, refl, sym, ◌∙◌, arith}
-use Rattle.can_bits.specs.declared.level.Level.TheVariants.{Recessive}
-use Rattle.can_bits.specs.Digits.{digit, level_of}
+use Rattle.can_levels.specs.declared.level.Level.TheVariants.{Recessive}
+use Rattle.can_levels.specs.Digits.{digit, level_of}
 use Rattle.can_bits.proofs.DueLemmas.{due_by, due_readable}
 use Rattle.can_bits.proofs.shift.Shift.ack_is_due.Goals as goal
 

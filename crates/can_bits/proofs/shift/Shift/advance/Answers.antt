@@ -1,5 +1,5 @@
 use Rattle.std.proofs.Common.{Option, subst}
-use Rattle.can_bits.specs.declared.shift_fault.ShiftFault.{ShiftFault}
+use Rattle.can_levels.specs.declared.shift_fault.ShiftFault.{ShiftFault}
 use Rattle.can_bits.specs.Shifts.{StandsBy}
 use Rattle.can_bits.proofs.DueLemmas.{broke_not_readable}
 use Rattle.can_bits.proofs.Reader.Places.{reads_inside, reads_past}

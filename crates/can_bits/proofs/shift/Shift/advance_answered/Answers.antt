@@ -1,5 +1,5 @@
 use Rattle.std.proofs.lemmas.Result.{on_ok_weaker, IfErr-weaker}
-use Rattle.can_bits.proofs.Readables.{faultless_readable}
+use Rattle.can_levels.proofs.Readables.{faultless_readable}
 use Rattle.can_bits.proofs.Whole.FirstFault.{first_fault}
 use Rattle.can_bits.proofs.shift.Shift.advance_answered.Goals as goal
 

@@ -1,9 +1,10 @@
 use Rattle.std.proofs.Common.{◌++◌, ◌∷◌, [], nat_eq, Some, refl, sym, subst}
 use Rattle.can_bits.specs.declared.frame_part.FramePart.{FramePart}
 use Rattle.can_bits.specs.declared.shift.Shift.{Shift}
-use Rattle.can_bits.specs.declared.shift_fault.ShiftFault.{ShiftFault}
+use Rattle.can_levels.specs.declared.shift_fault.ShiftFault.{ShiftFault}
 use Rattle.can_bits.specs.Inside.FrameParts.{ReadsAt}
-use Rattle.can_bits.specs.Shifts.{StandsFor, JudgesAt}
+use Rattle.can_bits.specs.Shifts.{StandsFor}
+use Rattle.can_levels.specs.Judgements.{JudgesAt}
 use Rattle.can_bits.proofs.Reader.Told.{wrong_event, broke_here, reads_readable}
 use Rattle.can_bits.proofs.shift.Shift.advance_inside.Goals as goal
 

@@ -1,12 +1,13 @@
 use Rattle.std.proofs.Common.{◌≡◌, ◌+◌, ◌++◌, ◌∷◌, [], List, false, Some, refl, sym, subst}
-use Rattle.can_bits.specs.declared.level.Level.{Level}
-use Rattle.can_bits.specs.declared.segment.Segment.{Segment}
+use Rattle.can_levels.specs.declared.level.Level.{Level}
+use Rattle.can_levels.specs.declared.segment.Segment.{Segment}
 use Rattle.can_bits.specs.declared.frame_part.FramePart.{FramePart}
 use Rattle.can_bits.specs.declared.shift.Shift.{Shift}
-use Rattle.can_bits.specs.declared.shift_fault.ShiftFault.{ShiftFault}
-use Rattle.can_bits.specs.Segments.{IsNext}
+use Rattle.can_levels.specs.declared.shift_fault.ShiftFault.{ShiftFault}
+use Rattle.can_levels.specs.Segments.{IsNext}
 use Rattle.can_bits.specs.Inside.FrameParts.{ReadsAt}
-use Rattle.can_bits.specs.Shifts.{StandsFor, JudgesAt}
+use Rattle.can_bits.specs.Shifts.{StandsFor}
+use Rattle.can_levels.specs.Judgements.{JudgesAt}
 use Rattle.can_bits.proofs.Reader.Past.{past_next, past_readable}
 use Rattle.can_bits.proofs.Reader.Told.{wrong_event, broke_here}
 use Rattle.can_bits.proofs.shift.Shift.advance_past.Goals as goal

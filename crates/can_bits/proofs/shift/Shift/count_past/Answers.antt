@@ -1,7 +1,7 @@
 use Rattle.std.proofs.Common.{◌≡◌, ◌+◌, ◌%◌, ℕ, Option, sym, subst, arith}
 use Rattle.can_bits.specs.declared.frame_part.FramePart.TheVariants.{FixedForm}
 use Rattle.can_bits.specs.declared.shift.Shift.{Shift}
-use Rattle.can_bits.specs.declared.shift_fault.ShiftFault.{ShiftFault}
+use Rattle.can_levels.specs.declared.shift_fault.ShiftFault.{ShiftFault}
 use Rattle.can_bits.specs.Inside.FrameParts.{IsPast}
 use Rattle.can_bits.specs.Shifts.{StandsBy}
 use Rattle.can_bits.proofs.Reader.Take.{past_small}

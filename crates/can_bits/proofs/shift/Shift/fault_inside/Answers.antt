@@ -1,6 +1,6 @@
 use Rattle.std.proofs.Common.{◌≡◌, ◌∙◌, sym, rules}
-use Rattle.can_bits.proofs.Values.{recessive_by}
-use Rattle.can_bits.proofs.Reader.Inside.{wrong_start, wrong_sixth}
+use Rattle.can_levels.proofs.Values.{recessive_by}
+use Rattle.can_levels.proofs.Reader.Inside.{wrong_start, wrong_sixth}
 use Rattle.can_bits.proofs.shift.Shift.fault_inside.Goals as goal
 
 pub returns-then-is_recessive-clause-broken : goal.returns-then-is_recessive-clause-broken

@@ -1,8 +1,8 @@
 use Rattle.std.proofs.Common.{◌≡◌, ◌+◌, ◌∙◌, ◌++◌, ◌∷◌, [], ℕ, refl, sym, subst, arith}
-use Rattle.can_bits.specs.Check.{Crc}
+use Rattle.can_levels.specs.Check.{Crc}
 use Rattle.can_bits.specs.Inside.Gathering.{SaysWhetherRight}
 use Rattle.can_bits.specs.Inside.FrameParts.{IsPast}
-use Rattle.can_bits.proofs.Values.{recessive_by, dominant_by}
+use Rattle.can_levels.proofs.Values.{recessive_by, dominant_by}
 use Rattle.can_bits.proofs.Reader.Past.{past_slot, past_form, past_recessive, past_wrong, past_trailing}
 use Rattle.can_bits.proofs.shift.Shift.fault_past.Goals.{else-n-eq2-via-then-n-eq2+else-not-check_is_right}
 use Rattle.can_bits.proofs.shift.Shift.fault_past.Goals.{else-n-eq2-via-else-n-eq2}

@@ -1,6 +1,6 @@
 use Rattle.std.proofs.Common.{◌∷◌, [], replicate, refl}
-use Rattle.can_bits.specs.declared.level.Level.TheVariants.{Recessive}
-use Rattle.can_bits.proofs.Readables.{readable_front}
+use Rattle.can_levels.specs.declared.level.Level.TheVariants.{Recessive}
+use Rattle.can_levels.proofs.Readables.{readable_front}
 use Rattle.can_bits.proofs.Reader.QuickPast.{frame_with, eight_before}
 use Rattle.can_bits.proofs.shift.Shift.frame_is_next.Goals as goal
 

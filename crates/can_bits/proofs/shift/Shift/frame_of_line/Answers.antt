@@ -1,9 +1,9 @@
 use Rattle.std.proofs.Common.{◌≡◌, ◌++◌, Option, true, false, refl, sym, subst, ◌∙◌, arith}
 use Rattle.can_frame.specs.Frame.{FrameValue}
-use Rattle.can_bits.specs.Line.{tail}
-use Rattle.can_bits.specs.Streaming.{ShowsFrameBut}
+use Rattle.can_levels.specs.Line.{tail}
+use Rattle.can_levels.specs.Streaming.{ShowsFrameBut}
 use Rattle.can_bits.proofs.Reader.Past.{past_shows}
-use Rattle.can_bits.proofs.DueLemmas.{over_part}
+use Rattle.can_levels.proofs.LineEnds.{over_part}
 use Rattle.can_bits.proofs.shift.Shift.frame_of_line.Goals as goal
 
 pub returns-then-is_past : goal.returns-then-is_past

@@ -1,7 +1,7 @@
 use Rattle.std.proofs.Common.{◌≡◌, ◌+◌, ◌++◌, ◌∷◌, length, replicate, Option, true, false, refl, sym, subst, ◌∙◌, arith}
 use Rattle.can_frame.specs.Frame.{FrameValue}
-use Rattle.can_bits.specs.declared.level.Level.TheVariants.{Recessive}
-use Rattle.can_bits.specs.Streaming.{ShowsFrame}
+use Rattle.can_levels.specs.declared.level.Level.TheVariants.{Recessive}
+use Rattle.can_levels.specs.Streaming.{ShowsFrame}
 use Rattle.can_bits.proofs.Reader.Past.{past_shows}
 use Rattle.can_bits.proofs.DueLemmas.{past_length, sixth_part}
 use Rattle.can_bits.proofs.shift.Shift.frame_or_kept.Goals as goal

@@ -1,6 +1,6 @@
 use Rattle.std.proofs.Common.{sym}
 use Rattle.std.proofs.lemmas.Bool.{ne_eqb}
-use Rattle.can_bits.proofs.PlaceLemmas.{late_no_stuff}
+use Rattle.can_levels.proofs.PlaceLemmas.{late_no_stuff}
 use Rattle.can_bits.proofs.Reader.Places.{reads_inside, reads_past, inside_count}
 use Rattle.can_bits.proofs.Reader.Places.{inside_full, inside_not_full, past_late}
 use Rattle.can_bits.proofs.shift.Shift.is_early_stuff.Goals as goal

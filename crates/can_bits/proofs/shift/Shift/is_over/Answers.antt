@@ -1,6 +1,7 @@
 use Rattle.std.proofs.Common.{◌≡◌, ◌+◌, length, refl, arith}
-use Rattle.can_bits.specs.Line.{tail}
-use Rattle.can_bits.proofs.DueLemmas.{over_by, over_readable, over_part, past_length}
+use Rattle.can_levels.specs.Line.{tail}
+use Rattle.can_bits.proofs.DueLemmas.{over_by, over_readable, past_length}
+use Rattle.can_levels.proofs.LineEnds.{over_part}
 use Rattle.can_bits.proofs.shift.Shift.is_over.Goals as goal
 
 -- `ten` proves nothing here: by it a wrong body is refused with values

@@ -1,6 +1,6 @@
 use Rattle.std.proofs.Common.{◌∙◌, Option, subst}
 use Rattle.std.proofs.lemmas.Bool.{eq-eqb}
-use Rattle.can_bits.specs.declared.shift_fault.ShiftFault.{ShiftFault}
+use Rattle.can_levels.specs.declared.shift_fault.ShiftFault.{ShiftFault}
 use Rattle.can_bits.specs.Shifts.{StandsBy}
 use Rattle.can_bits.proofs.DueLemmas.{broke_not_readable, inside_now, inside_no_part, past_now, past_count}
 use Rattle.can_bits.proofs.shift.Shift.is_past.Goals as goal

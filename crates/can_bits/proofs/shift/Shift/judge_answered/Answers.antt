@@ -1,10 +1,10 @@
 use Rattle.std.proofs.Common.{◌≡◌, ◌+◌, ◌++◌, ◌∷◌, [], length, true, false, refl, sym, subst, ◌∙◌, arith, append_assoc}
 use Rattle.std.proofs.lemmas.List.{same_from_push}
-use Rattle.can_bits.specs.declared.level.Level.TheVariants.{Recessive}
+use Rattle.can_levels.specs.declared.level.Level.TheVariants.{Recessive}
 use Rattle.can_bits.specs.Inside.Gathering.{SaysWhetherRight}
 use Rattle.can_bits.proofs.DueLemmas.{past_length}
-use Rattle.can_bits.proofs.Values.{recessive_by, dominant_by}
-use Rattle.can_bits.proofs.Whole.Faultless.{faultless_next, tail_left}
+use Rattle.can_levels.proofs.Values.{recessive_by, dominant_by}
+use Rattle.can_levels.proofs.Whole.Faultless.{faultless_next, tail_left}
 use Rattle.can_bits.proofs.Whole.FirstFault.{wrong_check_here, no_ack_here, right_check_here}
 use Rattle.can_bits.proofs.shift.Shift.judge_answered.Goals.{else-is_past-2-via-then-is_past-2+else-is_recessive}
 use Rattle.can_bits.proofs.shift.Shift.judge_answered.Goals.{else-is_past-2-via-else-is_past-2}

@@ -1,8 +1,8 @@
 use Rattle.std.proofs.Common.{[], refl}
-use Rattle.can_bits.specs.declared.level.Level.TheVariants.{Recessive}
-use Rattle.can_bits.specs.Inside.PartSoFar.EndsInRun.{nothing}
-use Rattle.can_bits.proofs.Whole.Steps.{Holds-nothing, IsBefore-nothing}
-use Rattle.can_bits.proofs.Reader.Inside.{so_far_by}
+use Rattle.can_levels.specs.declared.level.Level.TheVariants.{Recessive}
+use Rattle.can_levels.specs.PartSoFar.EndsInRun.{nothing}
+use Rattle.can_levels.proofs.Whole.Steps.{Holds-nothing, IsBefore-nothing}
+use Rattle.can_levels.proofs.Reader.Inside.{so_far_by}
 use Rattle.can_bits.proofs.shift.Shift.new.Goals as goal
 
 pub returns : goal.returns

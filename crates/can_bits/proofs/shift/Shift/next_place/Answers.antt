@@ -1,6 +1,6 @@
 use Rattle.std.proofs.Common.{sym, subst}
-use Rattle.can_bits.specs.declared.frame_place.FramePlace.{FramePlace}
-use Rattle.can_bits.specs.FramePlaces.{IsNextPlace}
+use Rattle.can_levels.specs.declared.frame_place.FramePlace.{FramePlace}
+use Rattle.can_levels.specs.FramePlaces.{IsNextPlace}
 use Rattle.can_bits.proofs.Reader.Past.{past_place}
 use Rattle.can_bits.proofs.Reader.Places.{reads_inside, reads_past}
 use Rattle.can_bits.proofs.shift.Shift.next_place.Goals as goal

@@ -1,6 +1,6 @@
 use Rattle.std.proofs.Common.{◌≡◌, ◌+◌, ◌∙◌, ℕ, Option, None, Some, ap, sym, refl, arith}
-use Rattle.can_bits.specs.Places.{place_code}
-use Rattle.can_bits.proofs.PlaceLemmas.{late_no_code}
+use Rattle.can_levels.specs.Places.{place_code}
+use Rattle.can_levels.proofs.PlaceLemmas.{late_no_code}
 use Rattle.can_bits.proofs.Reader.Places.{reads_inside, reads_past, inside_count}
 use Rattle.can_bits.proofs.Reader.Places.{inside_full, inside_not_full, past_late}
 use Rattle.can_bits.proofs.shift.Shift.place_code.Goals as goal

@@ -1,5 +1,5 @@
 use Rattle.std.proofs.Common.{◌-◌, ◌+◌, ◌∙◌, ap, length}
-use Rattle.can_bits.proofs.Reader.Inside.{next_plain_place, next_stuff_place}
+use Rattle.can_levels.proofs.Reader.Inside.{next_plain_place, next_stuff_place}
 use Rattle.can_bits.proofs.shift.Shift.place_inside.Goals as goal
 
 pub returns-then-self-eq-RUN : goal.returns-then-self-eq-RUN

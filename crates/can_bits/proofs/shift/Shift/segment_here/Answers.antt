@@ -1,7 +1,7 @@
 use Rattle.std.proofs.Common.{false, sym, subst}
-use Rattle.can_bits.specs.declared.segment.Segment.{Segment}
+use Rattle.can_levels.specs.declared.segment.Segment.{Segment}
 use Rattle.can_bits.specs.declared.frame_part.FramePart.{FramePart}
-use Rattle.can_bits.specs.Segments.{IsNext}
+use Rattle.can_levels.specs.Segments.{IsNext}
 use Rattle.can_bits.specs.Inside.FrameParts.{stuff_at}
 use Rattle.can_bits.proofs.Reader.Past.{past_next}
 use Rattle.can_bits.proofs.Reader.Places.{reads_inside, reads_past}

@@ -1,6 +1,6 @@
 use Rattle.std.proofs.Common.{◌≡◌, ◌==◌, true, false}
 use Rattle.std.proofs.lemmas.Bool.{eq-eqb, ne_eqb}
-use Rattle.can_bits.proofs.Reader.Inside.{next_bit, next_stuff_bit}
+use Rattle.can_levels.proofs.Reader.Inside.{next_bit, next_stuff_bit}
 use Rattle.can_bits.proofs.shift.Shift.segment_inside.Goals as goal
 
 pub returns-then-self-eq-RUN : goal.returns-then-self-eq-RUN

@@ -1,9 +1,10 @@
 use Rattle.std.proofs.Common.{◌++◌, ◌∷◌, [], Bool, Option, sym, subst}
-use Rattle.can_bits.specs.declared.shift_event.ShiftEvent.{ShiftEvent}
-use Rattle.can_bits.specs.declared.shift_fault.ShiftFault.{ShiftFault}
-use Rattle.can_bits.specs.Streaming.{Tells}
-use Rattle.can_bits.specs.Segments.{IsNext}
-use Rattle.can_bits.specs.Shifts.{StandsBy, JudgesAt, fault_event}
+use Rattle.can_levels.specs.declared.shift_event.ShiftEvent.{ShiftEvent}
+use Rattle.can_levels.specs.declared.shift_fault.ShiftFault.{ShiftFault}
+use Rattle.can_levels.specs.Streaming.{Tells}
+use Rattle.can_levels.specs.Segments.{IsNext}
+use Rattle.can_bits.specs.Shifts.{StandsBy}
+use Rattle.can_levels.specs.Judgements.{JudgesAt, fault_event}
 use Rattle.can_bits.proofs.Reader.Told.{reads_readable, wrong_event, tells_right, tells_again}
 use Rattle.can_bits.proofs.shift.Shift.step.Goals as goal
 

@@ -1,9 +1,9 @@
 use Rattle.std.proofs.Common.{List, OnOk, ◌++◌, ◌∷◌, [], arith, subst}
-use Rattle.can_bits.specs.declared.level.Level.{Level}
+use Rattle.can_levels.specs.declared.level.Level.{Level}
 use Rattle.can_bits.specs.declared.shift.Shift.{Shift}
-use Rattle.can_bits.specs.Reading.{IsFaultless}
+use Rattle.can_levels.specs.Reading.{IsFaultless}
 use Rattle.can_bits.specs.Shifts.{StandsFor}
-use Rattle.can_bits.proofs.Whole.Faultless.{faultless_next, inside_next}
+use Rattle.can_levels.proofs.Whole.Faultless.{faultless_next, inside_next}
 use Rattle.can_bits.proofs.shift.Shift.take_answered.Goals as goal
 
 pub returns-then-take_inside-clause-good : goal.returns-then-take_inside-clause-good

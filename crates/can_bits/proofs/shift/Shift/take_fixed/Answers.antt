@@ -1,7 +1,7 @@
 use Rattle.std.proofs.Common.{◌≡◌, ◌+◌, ◌++◌, ◌∷◌, [], ℕ, true, false, refl, subst, arith}
 use Rattle.can_bits.specs.Inside.FrameParts.{IsPast}
 use Rattle.can_bits.proofs.DueLemmas.{over_by}
-use Rattle.can_bits.proofs.Readables.{breaks_not_readable}
+use Rattle.can_levels.proofs.Readables.{breaks_not_readable}
 use Rattle.can_bits.proofs.Reader.QuickPast.{right_past_by}
 use Rattle.can_bits.proofs.shift.Shift.take_fixed.Goals as goal
 

@@ -1,6 +1,6 @@
 use Rattle.std.proofs.Common.{◌≡◌, true, false}
 use Rattle.can_bits.proofs.DueLemmas.{inside_now}
-use Rattle.can_bits.proofs.Reader.Inside.{not_past}
+use Rattle.can_levels.proofs.Reader.Inside.{not_past}
 use Rattle.can_bits.proofs.Reader.Quick.{right_no_fault}
 use Rattle.can_bits.proofs.shift.Shift.take_past.Goals as goal
 

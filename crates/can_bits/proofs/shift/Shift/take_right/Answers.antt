@@ -1,5 +1,5 @@
 use Rattle.std.proofs.Common.{◌+◌, ◌%◌, ◌∙◌, ◌++◌, ◌∷◌, [], ℕ, sym, subst, ap}
-use Rattle.can_bits.specs.declared.level.Level.{Level}
+use Rattle.can_levels.specs.declared.level.Level.{Level}
 use Rattle.can_bits.specs.declared.frame_part.FramePart.{FramePart}
 use Rattle.can_bits.specs.declared.shift.Shift.{Shift}
 use Rattle.can_bits.specs.Inside.FrameParts.{ReadsAt}

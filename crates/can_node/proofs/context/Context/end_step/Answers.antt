@@ -1,6 +1,6 @@
 use Rattle.std.proofs.Common.{sym, ap, ◌∙◌}
-use Rattle.can_node.specs.Effects.{own_step}
-use Rattle.can_node.specs.Inside.Standing.{context_of}
+use Rattle.can_node_rules.specs.Effects.{own_step}
+use Rattle.can_node.specs.Standing.{context_of}
 use Rattle.can_node.specs.Inside.Turns.{piece_of}
 use Rattle.can_node.proofs.context.Context.end_step.Goals as goal
 

@@ -1,4 +1,4 @@
-use Rattle.can_node.specs.Inside.Standing.{context_of}
+use Rattle.can_node.specs.Standing.{context_of}
 use Rattle.can_node.proofs.Machine.Counts.{count_integration, count_frame, count_delimiter}
 use Rattle.can_node.proofs.context.Context.step_bit.Goals as goal
 

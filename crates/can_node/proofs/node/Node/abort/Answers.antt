@@ -1,9 +1,9 @@
 use Rattle.std.proofs.Common.{◌++◌, ◌∷◌, [], ◌≡◌, refl, arith, sym, ap, ◌∙◌, None, true, false, if◌then◌else◌}
-use Rattle.can_node.specs.declared.abort_outcome.AbortOutcome.TheVariants.{Unchanged, Marked}
+use Rattle.can_node_rules.specs.declared.abort_outcome.AbortOutcome.TheVariants.{Unchanged, Marked}
 use Rattle.can_node.specs.declared.node.Node.{Node}
-use Rattle.can_node.specs.Context.{ContextValue}
-use Rattle.can_node.specs.Record.RecordEntry.{Abort}
-use Rattle.can_node.specs.Inside.Standing.{context_of}
+use Rattle.can_node_rules.specs.Context.{ContextValue}
+use Rattle.can_node_rules.specs.Record.RecordEntry.{Abort}
+use Rattle.can_node.specs.Standing.{context_of}
 use Rattle.can_node.proofs.Machine.Between.{changed}
 use Rattle.can_node.proofs.Machine.Shown.{stands_up}
 use Rattle.can_node.proofs.Machine.Requests.{marked_stands, dropped_stands, abort_is, going_is}

@@ -1,4 +1,4 @@
-use Rattle.can_node.specs.Inside.Standing.{context_of}
+use Rattle.can_node.specs.Standing.{context_of}
 use Rattle.can_node.proofs.Machine.Ats.{at_integration, at_last_eof_bit, at_flag, at_delimiter, at_interframe_space}
 use Rattle.can_node.proofs.node.Node.after_bit.Goals as goal
 

@@ -1,4 +1,4 @@
-use Rattle.can_node.specs.Inside.Standing.{context_of}
+use Rattle.can_node.specs.Standing.{context_of}
 use Rattle.can_node.proofs.Machine.Ats.{at_dominant_flag, at_passive_flag}
 use Rattle.can_node.proofs.node.Node.after_flag_bit.Goals as goal
 

@@ -1,4 +1,4 @@
-use Rattle.can_node.specs.Inside.Standing.{context_of}
+use Rattle.can_node.specs.Standing.{context_of}
 use Rattle.can_node.proofs.Machine.FrameTurns.{receive_turn, transmit_turn, transmitting_by}
 use Rattle.can_node.proofs.node.Node.after_frame_bit.Goals as goal
 

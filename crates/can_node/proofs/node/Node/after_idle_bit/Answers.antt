@@ -1,5 +1,5 @@
 use Rattle.std.proofs.Common.{refl, ap, ◌∙◌, None, if◌then◌else◌}
-use Rattle.can_node.specs.Inside.Standing.{context_of}
+use Rattle.can_node.specs.Standing.{context_of}
 use Rattle.can_node.proofs.Machine.IdleTurns.{idle_sends}
 use Rattle.can_node.proofs.node.Node.after_idle_bit.Goals as goal
 

@@ -1,5 +1,5 @@
 use Rattle.std.proofs.Common.{sym, ◌∙◌, []}
-use Rattle.can_node.specs.Inside.Standing.{context_of}
+use Rattle.can_node.specs.Standing.{context_of}
 use Rattle.can_node.proofs.Machine.IdleTurns.{idle_begins, idle_still}
 use Rattle.can_node.proofs.node.Node.after_other_idle_bit.Goals as goal
 

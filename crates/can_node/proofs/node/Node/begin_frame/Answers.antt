@@ -1,5 +1,5 @@
 use Rattle.std.proofs.Common.{[]}
-use Rattle.can_node.specs.Inside.Standing.{context_of}
+use Rattle.can_node.specs.Standing.{context_of}
 use Rattle.can_node.proofs.Machine.FrameStarts.{starts_frame}
 use Rattle.can_node.proofs.node.Node.begin_frame.Goals as goal
 

@@ -1,7 +1,7 @@
 use Rattle.std.proofs.Common.{sym, subst}
-use Rattle.can_node.specs.Context.{ContextValue}
-use Rattle.can_node.specs.Cut.{IsOnBus}
-use Rattle.can_node.proofs.OneCut.GoOn.{stays_end}
+use Rattle.can_node_rules.specs.Context.{ContextValue}
+use Rattle.can_node_rules.specs.Cut.{IsOnBus}
+use Rattle.can_node_rules.proofs.OneCut.GoOn.{stays_end}
 use Rattle.can_node.proofs.node.Node.counters.Goals as goal
 
 -- src/node.rt

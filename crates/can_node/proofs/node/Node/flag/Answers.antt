@@ -1,5 +1,5 @@
 use Rattle.std.proofs.Common.{ap}
-use Rattle.can_node.specs.Context.{ContextValue}
+use Rattle.can_node_rules.specs.Context.{ContextValue}
 use Rattle.can_node.proofs.node.Node.flag.Goals as goal
 
 -- src/next_field.rt

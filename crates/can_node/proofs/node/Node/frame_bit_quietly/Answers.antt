@@ -1,8 +1,9 @@
 use Rattle.std.proofs.Common.{◌≡◌, refl, sym, subst, rules}
-use Rattle.can_bits.specs.declared.level.Level.{Level}
+use Rattle.can_levels.specs.declared.level.Level.{Level}
 use Rattle.can_bits.specs.declared.shift.Shift.{Shift}
 use Rattle.can_node.specs.declared.node.Node.{Node}
-use Rattle.can_node.specs.Stands.{Samples, nothing, is_receiving}
+use Rattle.can_node.specs.Stands.{Samples, is_receiving}
+use Rattle.can_node_rules.specs.Outcomes.{nothing}
 use Rattle.can_node.proofs.Machine.Quiet.{quietly}
 use Rattle.can_node.proofs.Machine.QuietReceiver.{receives_inside}
 use Rattle.can_node.proofs.Machine.QuietTransmitter.{transmits_inside}

@@ -1,7 +1,7 @@
 use Rattle.std.proofs.Common.{sym, subst, ◌++◌, ◌∷◌, []}
 use Rattle.can_node.specs.declared.after_bit.AfterBit.{AfterBit}
-use Rattle.can_node.specs.Context.{ContextValue}
-use Rattle.can_node.specs.Inside.Standing.{context_of}
+use Rattle.can_node_rules.specs.Context.{ContextValue}
+use Rattle.can_node.specs.Standing.{context_of}
 use Rattle.can_node.specs.Inside.Turns.{AtAfter}
 use Rattle.can_node.proofs.Machine.Held.{HoldsBack, ended_held}
 use Rattle.can_node.proofs.node.Node.go_to.Goals as goal

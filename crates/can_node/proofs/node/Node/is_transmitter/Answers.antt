@@ -1,5 +1,5 @@
 use Rattle.std.proofs.Common.{ap, ◌∙◌}
-use Rattle.can_node.specs.Context.{ContextValue, is_transmitter}
+use Rattle.can_node_rules.specs.Context.{ContextValue, is_transmitter}
 use Rattle.can_node.proofs.node.Node.is_transmitter.Goals as goal
 
 -- src/next_field.rt

@@ -1,4 +1,4 @@
-use Rattle.can_node.specs.Inside.Standing.{context_of}
+use Rattle.can_node.specs.Standing.{context_of}
 use Rattle.can_node.proofs.Machine.FrameDrives.{transmitting_drives, receiving_drives}
 use Rattle.can_node.proofs.Machine.FrameTurns.{transmitting_by}
 use Rattle.can_node.proofs.node.Node.level_in_frame.Goals as goal

@@ -1,6 +1,6 @@
 use Rattle.std.proofs.Common.{◌≡◌, sym, arith, ◌∙◌}
-use Rattle.can_node.specs.Inside.Standing.{context_of}
-use Rattle.can_bits.proofs.Values.{recessive_by, dominant_by}
+use Rattle.can_node.specs.Standing.{context_of}
+use Rattle.can_levels.proofs.Values.{recessive_by, dominant_by}
 use Rattle.can_node.proofs.Machine.FrameDrives.{code_by}
 use Rattle.can_node.proofs.node.Node.lost_in_frame.Goals as goal
 

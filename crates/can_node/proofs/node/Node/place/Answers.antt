@@ -1,13 +1,13 @@
 use Rattle.std.proofs.Common.{Some, ap, ◌∙◌, sym, subst}
 use Rattle.std.specs.Prelude.{is_some}
-use Rattle.can_node.specs.declared.node_place.NodePlace.{NodePlace}
+use Rattle.can_node_rules.specs.declared.node_place.NodePlace.{NodePlace}
 use Rattle.can_node.specs.declared.stage.Stage.TheVariants.{BusIdle as StageBusIdle, InFrame as StageInFrame}
 use Rattle.can_node.specs.declared.stage.Stage.TheVariants.{LastEofBit as StageLastEofBit}
 use Rattle.can_node.specs.declared.stage.Stage.TheVariants.{InInterframeSpace as StageInInterframeSpace}
-use Rattle.can_node.specs.NextBit.{now_in, open_bits}
-use Rattle.can_node.specs.Context.{ContextValue}
-use Rattle.can_node.specs.Pieces.{sent_at}
-use Rattle.can_node.specs.Pieces.Place.{AtIdle}
+use Rattle.can_node_rules.specs.NextBit.{now_in, open_bits}
+use Rattle.can_node_rules.specs.Context.{ContextValue}
+use Rattle.can_node_rules.specs.Pieces.{sent_at}
+use Rattle.can_node_rules.specs.Pieces.Place.{AtIdle}
 use Rattle.can_node.specs.NextPlace.{PlaceAt, in_frame, sends_extended, start_if}
 use Rattle.can_node.proofs.Machine.Ats.{at_is}
 use Rattle.can_node.proofs.Machine.Places.{frame_place, idle_place, last_place, pause_place, no_place}

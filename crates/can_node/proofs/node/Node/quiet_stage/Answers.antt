@@ -1,5 +1,5 @@
 use Rattle.std.proofs.Common.{sym, ◌∙◌}
-use Rattle.can_node.specs.Inside.Standing.{context_of}
+use Rattle.can_node.specs.Standing.{context_of}
 use Rattle.can_node.proofs.Machine.Ats.{at_integration, at_flag, at_delimiter, at_interframe_space}
 use Rattle.can_node.proofs.Machine.QuietPlaces.{integrates_quietly, flags_quietly}
 use Rattle.can_node.proofs.Machine.QuietPlaces.{delimits_quietly, interframes_quietly}

@@ -3,9 +3,9 @@ use Rattle.can_frame.specs.Frame.{IsFrame}
 use Rattle.can_bits.specs.Packing.{IsSentBody}
 use Rattle.can_node.specs.declared.context.Context.{Context}
 use Rattle.can_node.specs.declared.node.Node.{Node}
-use Rattle.can_node.specs.declared.request.Request.{Request}
-use Rattle.can_node.specs.Inside.Standing.{HasBody}
-use Rattle.can_node.specs.Record.RecordEntry.{Send}
+use Rattle.can_node_rules.specs.declared.request.Request.{Request}
+use Rattle.can_node.specs.Standing.{HasBody}
+use Rattle.can_node_rules.specs.Record.RecordEntry.{Send}
 use Rattle.can_node.proofs.Machine.Shown.{DrivesBy, stands_up}
 use Rattle.can_node.proofs.Machine.Requests.{sent_stands, awake_now, none_held, held_now}
 use Rattle.can_node.proofs.node.Node.request.Goals as goal

@@ -1,7 +1,8 @@
 use Rattle.std.proofs.Common.{◌≡◌, not, ap, sym, subst, ◌∙◌}
 use Rattle.can_node.specs.declared.node.Node.{Node}
-use Rattle.can_node.specs.declared.bit_events.BitEvents.{BitEvents}
-use Rattle.can_node.specs.Stands.{Samples, nothing, is_receiving}
+use Rattle.can_node_rules.specs.declared.bit_events.BitEvents.{BitEvents}
+use Rattle.can_node.specs.Stands.{Samples, is_receiving}
+use Rattle.can_node_rules.specs.Outcomes.{nothing}
 use Rattle.can_node.proofs.Machine.Rests.{rests_at}
 use Rattle.can_node.proofs.node.Node.sample.Goals.{After-nothing, After-sample_fully}
 use Rattle.can_node.proofs.node.Node.sample.Goals as goal

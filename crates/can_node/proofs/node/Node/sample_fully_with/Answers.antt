@@ -1,8 +1,9 @@
 use Rattle.std.proofs.Common.{◌≡◌, not, ap, nat_le, subst, sym, arith}
 use Rattle.can_node.specs.declared.node.Node.{Node}
-use Rattle.can_node.specs.declared.bit_events.BitEvents.{BitEvents}
-use Rattle.can_node.specs.Inside.Standing.{context_of}
-use Rattle.can_node.specs.Stands.{Samples, nothing}
+use Rattle.can_node_rules.specs.declared.bit_events.BitEvents.{BitEvents}
+use Rattle.can_node.specs.Standing.{context_of}
+use Rattle.can_node.specs.Stands.{Samples}
+use Rattle.can_node_rules.specs.Outcomes.{nothing}
 use Rattle.can_node.proofs.Machine.SampleSteps.{Counts, sampled}
 use Rattle.can_node.proofs.node.Node.sample_fully_with.Goals as goal
 

@@ -1,5 +1,5 @@
 use Rattle.std.proofs.Common.{sym, ◌∙◌}
-use Rattle.can_bits.proofs.Values.{recessive_by}
+use Rattle.can_levels.proofs.Values.{recessive_by}
 use Rattle.can_node.proofs.Machine.QuietOutside.{idle_quietly}
 use Rattle.can_node.proofs.node.Node.sample_quietly.Goals as goal
 

@@ -1,5 +1,5 @@
 use Rattle.can_node.specs.declared.stage.Stage.TheVariants.{InFrame as StageInFrame, LastEofBit as StageLastEofBit}
-use Rattle.can_node.specs.NextBit.{now_in, open_bits}
+use Rattle.can_node_rules.specs.NextBit.{now_in, open_bits}
 use Rattle.can_node.proofs.Machine.Ats.{at_is}
 use Rattle.can_node.proofs.Machine.Segments.{frame_segment, last_segment, no_segment}
 use Rattle.can_node.proofs.node.Node.segment.Goals as goal

@@ -1,10 +1,11 @@
 use Rattle.std.proofs.Common.{refl, ap, sym, ◌∙◌, ◌++◌, ◌∷◌, []}
 use Rattle.can_node.specs.declared.node.Node.{Node}
 use Rattle.can_node.specs.declared.stage.Stage.TheVariants.{Integrating}
-use Rattle.can_node.specs.Context.{ContextValue}
-use Rattle.can_node.specs.Record.RecordEntry.{Start}
-use Rattle.can_node.specs.Inside.Standing.{context_of}
-use Rattle.can_node.proofs.Machine.Calls.{started_stands, start_holds}
+use Rattle.can_node_rules.specs.Context.{ContextValue}
+use Rattle.can_node_rules.specs.Record.RecordEntry.{Start}
+use Rattle.can_node.specs.Standing.{context_of}
+use Rattle.can_node.proofs.Machine.Calls.{started_stands}
+use Rattle.can_node_rules.proofs.OneCut.Resets.{start_holds}
 use Rattle.can_node.proofs.Machine.Shown.{stands_up, integrating_drives}
 use Rattle.can_node.proofs.node.Node.start.Goals as goal
 

@@ -1,9 +1,9 @@
 use Rattle.std.proofs.Common.{◌≡◌, refl, ap, sym, arith, ◌∙◌, ◌++◌, ◌∷◌, []}
-use Rattle.can_bits.specs.declared.level.Level.TheVariants.{Recessive}
+use Rattle.can_levels.specs.declared.level.Level.TheVariants.{Recessive}
 use Rattle.can_node.specs.declared.node.Node.{Node}
-use Rattle.can_node.specs.Context.{ContextValue}
-use Rattle.can_node.specs.Record.RecordEntry.{Stop}
-use Rattle.can_node.specs.Inside.Standing.{HasBody}
+use Rattle.can_node_rules.specs.Context.{ContextValue}
+use Rattle.can_node_rules.specs.Record.RecordEntry.{Stop}
+use Rattle.can_node.specs.Standing.{HasBody}
 use Rattle.can_node.proofs.Machine.Calls.{stopped_stands}
 use Rattle.can_node.proofs.Machine.Shown.{stands_up, reset_drives}
 use Rattle.can_node.proofs.node.Node.stop.Goals as goal

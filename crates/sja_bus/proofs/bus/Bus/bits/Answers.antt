@@ -1,6 +1,6 @@
 use Rattle.std.proofs.Common.{◌≡◌, ℕ, ◌+◌, ◌-◌, None, arith, rules, length}
 use Rattle.std.specs.Prelude.{Err}
-use Rattle.sja_wire.specs.declared.bus_fault.BusFault.{BusFault}
+use Rattle.sja_journal.specs.declared.bus_fault.BusFault.{BusFault}
 use Rattle.sja_bus.specs.Moment.{Moment, moment, Keeps}
 use Rattle.sja_bus.specs.Several.{BitInOrder, WorksIf, StopsBits}
 use Rattle.sja_bus.specs.Inside.RunningOn.{AnyBit, IsSoFar}

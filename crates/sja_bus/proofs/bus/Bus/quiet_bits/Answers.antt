@@ -1,9 +1,9 @@
 use Rattle.std.proofs.Common.{◌≡◌, ◌≢◌, ap, ◌+◌, ◌∙◌, ℕ, List, refl, sym, subst, inr}
 use Rattle.std.specs.Prelude.{Result, Ok, IfOk}
 use Rattle.std.proofs.lemmas.Result.{IfErr-weaker}
-use Rattle.sja_wire.specs.declared.bus_fault.BusFault.{BusFault}
-use Rattle.sja_link.specs.BitEntries.{MayHaveItems}
-use Rattle.sja_wire.specs.Buses.{AreOnLinks, BusValue, AllTold, EachJournal, EachUntold}
+use Rattle.sja_journal.specs.declared.bus_fault.BusFault.{BusFault}
+use Rattle.sja_journal.specs.BitEntries.{MayHaveItems}
+use Rattle.sja_bus_rules.specs.Buses.{AreOnLinks, BusValue, AllTold, EachJournal, EachUntold}
 use Rattle.sja_bus.specs.Stretches.{IsStretch, IsOutOfEntries}
 use Rattle.sja_bus.specs.Inside.AtOnce.{RunsAtOnce}
 use Rattle.sja_bus.proofs.AllNodes.SoFar.{each_count}

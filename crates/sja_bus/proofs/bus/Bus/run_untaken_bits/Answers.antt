@@ -1,6 +1,6 @@
 use Rattle.std.proofs.Common.{◌≡◌, ◌+◌, ◌-◌, ℕ, subst, arith, rules}
 use Rattle.std.specs.Prelude.{Err}
-use Rattle.sja_wire.specs.declared.bus_fault.BusFault.{BusFault}
+use Rattle.sja_journal.specs.declared.bus_fault.BusFault.{BusFault}
 use Rattle.sja_bus.specs.Moment.{moment}
 use Rattle.sja_bus.specs.Several.{WorksIf}
 use Rattle.sja_bus.specs.UntilTold.{WorksUntold}

@@ -1,5 +1,5 @@
 use Rattle.std.proofs.Common.{List, [], ◌∷◌, ◌++◌, sym, ap, subst, arith}
-use Rattle.sja_script.specs.declared.strike.Strike.{Strike}
+use Rattle.sja_steps.specs.declared.strike.Strike.{Strike}
 use Rattle.sja_bus.specs.Inside.StrikesByBit.{Laters, StrikeAlike}
 use Rattle.sja_bus.proofs.WholeBus.Laters.{alike_more, alike_then}
 use Rattle.sja_bus.proofs.later_strikes.LaterStrikes.push.Goals.{After-and_all-self-inside}

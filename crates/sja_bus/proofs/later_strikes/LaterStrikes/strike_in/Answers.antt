@@ -1,6 +1,6 @@
 use Rattle.std.proofs.Common.{List, sym, ap, subst, arith, inl, inr}
-use Rattle.sja_script.specs.declared.strike.Strike.{Strike}
-use Rattle.sja_script.specs.Striking.{Strikes}
+use Rattle.sja_steps.specs.declared.strike.Strike.{Strike}
+use Rattle.sja_steps.specs.Striking.{Strikes}
 use Rattle.sja_bus.specs.Inside.StrikesByBit.{Laters}
 use Rattle.sja_bus.proofs.later_strikes.LaterStrikes.strike_in.Goals as goal
 

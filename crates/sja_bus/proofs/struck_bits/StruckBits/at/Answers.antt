@@ -1,6 +1,6 @@
 use Rattle.std.proofs.Common.{List, arith, sym, subst, inl, inr}
-use Rattle.sja_script.specs.declared.strike.Strike.{Strike}
-use Rattle.sja_script.specs.Striking.{Strikes}
+use Rattle.sja_steps.specs.declared.strike.Strike.{Strike}
+use Rattle.sja_steps.specs.Striking.{Strikes}
 use Rattle.sja_bus.specs.Inside.StrikesByBit.{Scripted}
 use Rattle.sja_bus.proofs.WholeBus.Marking.{struck_both}
 use Rattle.sja_bus.proofs.struck_bits.StruckBits.at.Goals as goal

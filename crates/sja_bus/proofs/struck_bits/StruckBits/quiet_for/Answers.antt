@@ -1,5 +1,5 @@
 use Rattle.std.proofs.Common.{◌≡◌, ◌+◌, ℕ, arith, inl, inr, subst}
-use Rattle.sja_script.specs.Striking.{Strikes}
+use Rattle.sja_steps.specs.Striking.{Strikes}
 use Rattle.sja_bus.proofs.struck_bits.StruckBits.quiet_for.Goals as goal
 
 pub returns-clause-quiet : goal.returns-clause-quiet

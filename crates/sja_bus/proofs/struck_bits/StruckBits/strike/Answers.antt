@@ -1,5 +1,5 @@
 use Rattle.std.proofs.Common.{◌≡◌, List, [], ◌∷◌, ◌++◌, sym, ap, ◌∙◌, subst, append_assoc, rules}
-use Rattle.sja_script.specs.declared.strike.Strike.{Strike}
+use Rattle.sja_steps.specs.declared.strike.Strike.{Strike}
 use Rattle.sja_bus.specs.Inside.StrikesByBit.{IsHeld, Laters}
 use Rattle.sja_bus.proofs.WholeBus.Marking.{held_anew, held_more}
 use Rattle.sja_bus.proofs.struck_bits.StruckBits.strike.Goals.{After-strike}

@@ -29,7 +29,7 @@ use Rattle.sja_c.proofs.answer.SjaAnswer.TheLaws as laws
 use Rattle.sja_c.specs.contracts.answer.SjaAnswer as answers
 use Rattle.sja_c.specs.contracts.loose.Loose as loose
 use Rattle.sja_c.specs.declared.new_handle.NewHandle.{NewHandle}
-use Rattle.sja_calls.specs.contracts.held_session.HeldSession.{the_row as R}
+use Rattle.sja_calls.specs.contracts.handle.Handle.{the_row as R}
 use Rattle.sja_c.specs.contracts.new_handle.NewHandle.of.{ended, clauses}
 use Rattle.sja_c.specs.contracts.new_handle.NewHandle.of.Key.{name as #self}
 use Rattle.sja_c.proofs.new_handle.NewHandle.of.Statement.{statement}

@@ -1,5 +1,5 @@
 use Rattle.std.proofs.Common.{refl, arith}
-use Rattle.sja_script.specs.declared.step.Step.TheVariants as step
+use Rattle.sja_steps.specs.declared.step.Step.TheVariants as step
 use Rattle.sja_driver.specs.Inside.Attempts.{stopped_by}
 use Rattle.sja_driver.specs.LoggedDrivers.{ended_of}
 use Rattle.sja_driver.proofs.LogOfSteps.Logged.{stays_lawful, steps_of}

@@ -1,5 +1,5 @@
 use Rattle.std.proofs.Common.{refl}
-use Rattle.sja_script.specs.declared.step.Step.TheVariants as step
+use Rattle.sja_steps.specs.declared.step.Step.TheVariants as step
 use Rattle.sja_regs.specs.Registers.{at_power_on}
 use Rattle.sja_driver.specs.Inside.Attempts.{tried_of}
 use Rattle.sja_driver.specs.LoggedDrivers.{ended_of}

@@ -4,7 +4,7 @@ use Rattle.std.proofs.Common.{length-drop, refl, sym, ap, ◌∙◌, inl, inr, r
 use Rattle.std.specs.Prelude.{◌⊎◌, ◌≤◌, slice_index_or, slice_set}
 use Rattle.std.proofs.lemmas.List.{length-set}
 use Rattle.sja_link.specs.contracts.deque_links.DequeLinks.{the_view}
-use Rattle.sja_link.specs.declared.down.Down.{Down}
+use Rattle.sja_journal.specs.declared.down.Down.{Down}
 use Rattle.sja_link.specs.declared.older_down.OlderDown.{OlderDown}
 use Rattle.sja_link.specs.Deques.{Deques, Queues, nothing_lies, among, on_link, left_on, queues_on, up_on}
 use Rattle.sja_link.proofs.QueuedLinks.Among.{among_at}

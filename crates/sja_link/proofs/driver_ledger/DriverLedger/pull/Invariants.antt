@@ -1,5 +1,5 @@
 use Rattle.std.proofs.Common.{◌≡◌, ◌+◌, ◌-◌, length}
-use Rattle.sja_link.specs.Lists.{OthersStand, on}
+use Rattle.sja_journal.specs.Lists.{OthersStand, on}
 use Rattle.sja_link.specs.Looking.{Pulls, one_if}
 use Rattle.sja_link.proofs.driver_ledger.DriverLedger.pull.Given as goal
 

@@ -1,5 +1,5 @@
 use Rattle.std.proofs.Common.{◌∙◌, rules}
-use Rattle.sja_link.specs.declared.down.Down.TheVariants.{Off as OffDown}
+use Rattle.sja_journal.specs.declared.down.Down.TheVariants.{Off as OffDown}
 use Rattle.sja_link.specs.declared.event.Event.TheVariants.{Off}
 use Rattle.sja_link.specs.WorldEvents.{MayPut}
 use Rattle.sja_link.specs.Inside.Fields.{world_of}

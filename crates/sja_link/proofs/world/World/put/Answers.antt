@@ -1,5 +1,5 @@
 use Rattle.std.proofs.Common.{◌-◌, ◌∙◌, ap, arith, rules}
-use Rattle.sja_link.specs.declared.down.Down.TheVariants.{Message}
+use Rattle.sja_journal.specs.declared.down.Down.TheVariants.{Message}
 use Rattle.sja_link.specs.declared.event.Event.TheVariants.{Put}
 use Rattle.sja_link.specs.WorldEvents.{Allowed}
 use Rattle.sja_link.specs.Inside.Fields.{world_of}

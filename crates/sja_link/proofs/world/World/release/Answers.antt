@@ -1,7 +1,7 @@
 use Rattle.std.proofs.Common.{◌≡◌, ◌∷◌, [], length, take, drop, arith, rules}
-use Rattle.sja_link.specs.declared.up.Up.TheVariants.{Credit}
+use Rattle.sja_journal.specs.declared.up.Up.TheVariants.{Credit}
 use Rattle.lemmas.specs.Gathering.{total}
-use Rattle.sja_link.specs.Lists.{messages}
+use Rattle.sja_journal.specs.Lists.{messages}
 use Rattle.sja_link.specs.World.{credits_of, is_off, is_stop}
 use Rattle.sja_link.specs.WorldEvents.{first_credit}
 use Rattle.sja_link.proofs.JournalEntries.ListCounts.{up_count}

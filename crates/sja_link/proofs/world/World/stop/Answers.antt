@@ -1,5 +1,5 @@
 use Rattle.std.proofs.Common.{refl, ◌∙◌, sym, rules}
-use Rattle.sja_link.specs.declared.up.Up.TheVariants.{Stop as StopUp}
+use Rattle.sja_journal.specs.declared.up.Up.TheVariants.{Stop as StopUp}
 use Rattle.sja_link.specs.declared.event.Event.TheVariants.{Stop}
 use Rattle.sja_link.specs.WorldEvents.{IsOpen}
 use Rattle.sja_link.specs.Inside.Fields.{world_of}

@@ -1,7 +1,7 @@
 use Rattle.std.proofs.Common.{◌≡◌, ◌<◌, ◌≤◌, ◌∙◌, List, [], length, map, ap, sym, subst, arith}
 use Rattle.std.proofs.lemmas.List.{get_or-map, length-map}
 use Rattle.std.proofs.lemmas.List.Elements.{All-get_or}
-use Rattle.sja_script.specs.declared.step.Step.{Step}
+use Rattle.sja_steps.specs.declared.step.Step.{Step}
 use Rattle.sja_plan.specs.Limits.{most_steps}
 use Rattle.sja_plan.specs.Plan.{PlanValue}
 use Rattle.sja_plan.proofs.PlanLimits.ByVersion.{steps_most}

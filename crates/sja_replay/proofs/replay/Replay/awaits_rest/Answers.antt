@@ -1,8 +1,8 @@
 use Rattle.std.proofs.Common.{◌≡◌, true, false, Some, subst, rules}
-use Rattle.can_bits.specs.declared.level.Level.{Level}
-use Rattle.can_bits.specs.declared.level.Level.TheVariants.{Recessive}
+use Rattle.can_levels.specs.declared.level.Level.{Level}
+use Rattle.can_levels.specs.declared.level.Level.TheVariants.{Recessive}
 use Rattle.can_node.specs.Stands.{DrivesNext, ShowsRest}
-use Rattle.sja_link.specs.RestBits.{rest_bit}
+use Rattle.sja_journal.specs.RestBits.{rest_bit}
 use Rattle.sja_replay.proofs.replay.Replay.awaits_rest.Goals as goal
 
 pub returns : goal.returns

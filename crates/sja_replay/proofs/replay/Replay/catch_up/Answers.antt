@@ -1,7 +1,7 @@
 use Rattle.std.proofs.Common.{◌≡◌, ◌&&◌, ◌∙◌, true, false, ap}
-use Rattle.can_node.specs.declared.role.Role.{Role}
+use Rattle.can_node_rules.specs.declared.role.Role.{Role}
 use Rattle.can_node.specs.declared.stage.Stage.{Stage}
-use Rattle.can_node.specs.Context.{is_transmitter}
+use Rattle.can_node_rules.specs.Context.{is_transmitter}
 use Rattle.can_node.specs.Together.{is_in_frame, is_sending}
 use Rattle.can_node.proofs.Machine.Following.{follows_reading}
 use Rattle.sja_replay.proofs.BitTaken.Passed.{same_but}

@@ -1,6 +1,6 @@
 use Rattle.std.proofs.Common.{◌∙◌, Bool, Option, Some, subst, ap}
-use Rattle.sja_link.specs.declared.entry.Entry.{Entry}
-use Rattle.sja_link.specs.declared.entry.Entry.TheVariants.{Bit}
+use Rattle.sja_journal.specs.declared.entry.Entry.{Entry}
+use Rattle.sja_journal.specs.declared.entry.Entry.TheVariants.{Bit}
 use Rattle.sja_replay.specs.Inside.Walking.{IsTakenFrom, Enters}
 use Rattle.sja_replay.proofs.BitTaken.Walks.{goes_on, past_more, brought_on, tells_on, untold_on, ends_refused}
 use Rattle.sja_replay.proofs.BitTaken.Walks.{ends_over, some_left}

@@ -1,5 +1,5 @@
 use Rattle.std.proofs.Common.{◌≡◌, List, [], length}
-use Rattle.sja_link.specs.declared.entry.Entry.{Entry}
+use Rattle.sja_journal.specs.declared.entry.Entry.{Entry}
 use Rattle.sja_replay.specs.Inside.Walking.{IsPast}
 use Rattle.sja_replay.specs.Replaying.{left_of, IsAt}
 use Rattle.sja_replay.proofs.replay.Replay.next.Given as goal

@@ -1,5 +1,5 @@
 use Rattle.std.proofs.Common.{Result, refl, subst}
-use Rattle.can_node.specs.declared.request.Request.{Request}
+use Rattle.can_node_rules.specs.declared.request.Request.{Request}
 use Rattle.can_node.specs.Stands.{Requests}
 use Rattle.sja_replay.proofs.Knowledge.Entering.{asks_takes, off_takes, send_refused, asks, asks_off}
 use Rattle.sja_replay.proofs.replay.Replay.send.Goals as goal

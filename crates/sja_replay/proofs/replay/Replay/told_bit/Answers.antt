@@ -26,7 +26,7 @@ returns-clause-brings c = λ before h.
     let bits : c.in-Some.bits ≡ c.args.self.now.bits + 1 = search rules in
     let few : c.in-Some.bits < 2 ^ 32 = search rules in
     told_bit c.args.self.now _ c.close.new.self before c.args.driven c.args.seen c.drive.result
-    c.of-before.result c.sample-events.result c.of-after.result c.in-Ok.fate h c.drive.ensures
+    c.of-before.result c.sample-events.result c.of-after.result c.in-Ok.reception h c.drive.ensures
     (c.is_same.ensures.yes c.if-not-is_same.false) c.sample-events.ensures.samples c.of-before.ensures
     c.of-after.ensures c.in-Ok.ensures
     (has_bit c.args.self.now c.sample-events.new.self c.in-Some.bits _ bits few)

@@ -1,10 +1,10 @@
 use Rattle.std.proofs.Common.{◌≡◌, [], refl, arith}
 use Rattle.lemmas.proofs.Related.{each_refl}
-use Rattle.sja_link.specs.Lists.{with_taken}
+use Rattle.sja_journal.specs.Lists.{with_taken}
 use Rattle.sja_rings.specs.declared.ring_bus.RingBus.{RingBus}
 use Rattle.sja_rings.specs.Ends.{SameBus, shown_up}
 use Rattle.sja_rings.specs.NodeRings.{BusListsAt, OnRing}
-use Rattle.sja_rings.specs.Inside.Carrying.{bus_refl}
+use Rattle.sja_rings.specs.Carrying.{bus_refl}
 use Rattle.sja_rings.proofs.RingsOfNode.{IsCall, after, changed, others, each_set, off, if_some, if_none}
 use Rattle.sja_rings.proofs.node_bus.NodeBusBusEnd.take.Goals.{After-take}
 use Rattle.sja_rings.proofs.node_bus.NodeBusBusEnd.take.Goals as goal

@@ -1,10 +1,10 @@
 use Rattle.std.proofs.Common.{◌≡◌, [], refl, arith}
 use Rattle.lemmas.proofs.Related.{each_refl}
-use Rattle.sja_link.specs.Lists.{with_got}
+use Rattle.sja_journal.specs.Lists.{with_got}
 use Rattle.sja_rings.specs.declared.ring_driver.RingDriver.{RingDriver}
 use Rattle.sja_rings.specs.Ends.{SameDriver, shown_down}
 use Rattle.sja_rings.specs.NodeRings.{DriverListsAt, OnRing}
-use Rattle.sja_rings.specs.Inside.Carrying.{driver_refl}
+use Rattle.sja_rings.specs.Carrying.{driver_refl}
 use Rattle.sja_rings.proofs.RingsOfNode.{IsCall, after, changed, others, each_set, off, if_some, if_none}
 use Rattle.sja_rings.proofs.node_driver.NodeDriverDriverEnd.get.Goals.{After-get}
 use Rattle.sja_rings.proofs.node_driver.NodeDriverDriverEnd.get.Goals as goal

@@ -1,10 +1,10 @@
 use Rattle.std.proofs.Common.{◌≡◌, refl, arith}
 use Rattle.lemmas.proofs.Related.{each_refl}
-use Rattle.sja_link.specs.Lists.{with_given}
+use Rattle.sja_journal.specs.Lists.{with_given}
 use Rattle.sja_rings.specs.declared.ring_driver.RingDriver.{RingDriver}
 use Rattle.sja_rings.specs.Ends.{SameDriver, places_up}
 use Rattle.sja_rings.specs.NodeRings.{DriverListsAt, OnRing}
-use Rattle.sja_rings.specs.Inside.Carrying.{driver_refl}
+use Rattle.sja_rings.specs.Carrying.{driver_refl}
 use Rattle.sja_rings.proofs.RingsOfNode.{IsCall, before, changed, others, each_set, off, on_ok, on_err}
 use Rattle.sja_rings.proofs.node_driver.NodeDriverDriverEnd.give.Goals.{After-give}
 use Rattle.sja_rings.proofs.node_driver.NodeDriverDriverEnd.give.Goals as goal

@@ -1,7 +1,7 @@
 use Rattle.std.proofs.Common.{refl, le_refl}
 use Rattle.rtrb.specs.Ring.{known_items, received}
 use Rattle.sja_rings.specs.Ends.{reach_down}
-use Rattle.sja_rings.specs.Inside.Carrying.{same_producer}
+use Rattle.sja_rings.specs.Carrying.{same_producer}
 use Rattle.sja_rings.proofs.Seen.{seen_popped}
 use Rattle.sja_rings.proofs.ring_bus.RingBus.take.Goals as goal
 

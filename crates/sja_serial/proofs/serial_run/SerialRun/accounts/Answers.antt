@@ -1,6 +1,6 @@
 use Rattle.std.proofs.Common.{ap, ◌∙◌, subst}
-use Rattle.sja_wire.specs.Buses.{BusValue}
-use Rattle.sja_wire.specs.Lawful.{IsBusRun}
+use Rattle.sja_bus_rules.specs.Buses.{BusValue}
+use Rattle.sja_bus_rules.specs.Lawful.{IsBusRun}
 use Rattle.sja_serial.specs.Serial.{SerialValue}
 use Rattle.sja_serial.proofs.WholeRun.AccountsNow.{accounts_now}
 use Rattle.sja_serial.proofs.serial_run.SerialRun.accounts.Goals as goal

@@ -6,7 +6,7 @@ use Rattle.sja_serial.proofs.ManyBits.Ending.{ended_of}
 use Rattle.sja_serial.proofs.serial_run.SerialRun.bits_until_told.Goals as goal
 
 pub returns-then-most-eq0-clause-bits : goal.returns-then-most-eq0-clause-bits
-returns-then-most-eq0-clause-bits g c = λ deeds h. no_bit c.args.self.now
+returns-then-most-eq0-clause-bits g c = λ acts h. no_bit c.args.self.now
 
 pub returns-clause-longest : goal.returns-clause-longest
 returns-clause-longest g c = λ some. let left = c.bits_left.ensures.left in let most = c.at_most-most.ensures in

@@ -7,22 +7,22 @@ use Rattle.sja_serial.proofs.serial_run.SerialRun.bus_turn.Goals as goal
 pub loop-run-init : goal.loop-run-init
 loop-run-init g c = record {
   most = c.run_busy_bits-run.ensures.most;
-  some = λ deeds h. (
+  some = λ acts h. (
     0,
     omega arith,
-    bits_none g.setup deeds (λ (r : SerialValue). Unit {0})
+    bits_none g.setup acts (λ (r : SerialValue). Unit {0})
         c.run_busy_bits-run.new.self h,
   );
 }
 
 pub returns-then-bits_left-eq0-clause-turn : goal.returns-then-bits_left-eq0-clause-turn
-returns-then-bits_left-eq0-clause-turn g c = λ deeds h.
-    let s = some_since g.setup deeds c.args.self.now c.run_busy_bits-run.new.self c.loop-run.self
-    c.run_busy_bits-run.result c.loop-run.run h (c.run_busy_bits-run.ensures.bits deeds h)
-    (c.loop-run.invariant.some deeds) in
+returns-then-bits_left-eq0-clause-turn g c = λ acts h.
+    let s = some_since g.setup acts c.args.self.now c.run_busy_bits-run.new.self c.loop-run.self
+    c.run_busy_bits-run.result c.loop-run.run h (c.run_busy_bits-run.ensures.bits acts h)
+    (c.loop-run.invariant.some acts) in
     let few = c.loop-run-test.true in let all = c.bits_left.ensures.left in
     let none : c.bits_left.result ≡ 0 = search rules in
-    bus_spent g.setup deeds c.args.self.now c.loop-run.self c.loop-run.run c.args.count (omega (arith, few))
+    bus_spent g.setup acts c.args.self.now c.loop-run.self c.loop-run.run c.args.count (omega (arith, few))
     (omega (arith, all, none)) s
 
 pub returns-then-bits_left-eq0-clause-stays : goal.returns-then-bits_left-eq0-clause-stays
@@ -73,20 +73,20 @@ loop-run-preserved-then-run-count g c =
     let most = c.loop-run.invariant.most in let few = c.run_resting_bits-run.ensures.most in
     let more = c.run_busy_bits-run-then-run-count.ensures.most in record {
       most = omega (arith, most, few, more);
-      some = λ deeds h.
-          let x = c.loop-run.invariant.some deeds h in let is = x.1 in
-          let s = some_then g.setup deeds (λ (r : SerialValue). Unit {0}) c.run_busy_bits-run.new.self
+      some = λ acts h.
+          let x = c.loop-run.invariant.some acts h in let is = x.1 in
+          let s = some_then g.setup acts (λ (r : SerialValue). Unit {0}) c.run_busy_bits-run.new.self
           c.loop-run.self c.run_resting_bits-run.new.self x.0 c.run_resting_bits-run.result x.2
-          (c.run_resting_bits-run.ensures.bits deeds x.2.stands) in (
+          (c.run_resting_bits-run.ensures.bits acts x.2.stands) in (
             x.0 + c.run_resting_bits-run.result + c.run_busy_bits-run-then-run-count.result,
             omega (arith, is),
-            some_then g.setup deeds (λ (r : SerialValue). Unit {0}) c.run_busy_bits-run.new.self
+            some_then g.setup acts (λ (r : SerialValue). Unit {0}) c.run_busy_bits-run.new.self
                 c.run_resting_bits-run.new.self c.run_busy_bits-run-then-run-count.new.self
                 (x.0 + c.run_resting_bits-run.result)
-                c.run_busy_bits-run-then-run-count.result s (bits_freely g.setup deeds (SomeWorks g.setup)
+                c.run_busy_bits-run-then-run-count.result s (bits_freely g.setup acts (SomeWorks g.setup)
                 c.run_resting_bits-run.new.self c.run_busy_bits-run-then-run-count.new.self
                 c.run_busy_bits-run-then-run-count.result
-                (c.run_busy_bits-run-then-run-count.ensures.bits deeds s.stands)),
+                (c.run_busy_bits-run-then-run-count.ensures.bits acts s.stands)),
           );
     }
 
@@ -94,23 +94,23 @@ pub loop-run-preserved : goal.loop-run-preserved
 loop-run-preserved g c =
     let most = c.loop-run.invariant.most in let few = c.run_resting_bits-run.ensures.most in record {
       most = omega (arith, most, few);
-      some = λ deeds h.
-          let x = c.loop-run.invariant.some deeds h in let is = x.1 in (
+      some = λ acts h.
+          let x = c.loop-run.invariant.some acts h in let is = x.1 in (
             x.0 + c.run_resting_bits-run.result,
             omega (arith, is),
-            some_then g.setup deeds (λ (r : SerialValue). Unit {0}) c.run_busy_bits-run.new.self
+            some_then g.setup acts (λ (r : SerialValue). Unit {0}) c.run_busy_bits-run.new.self
                 c.loop-run.self c.run_resting_bits-run.new.self x.0 c.run_resting_bits-run.result x.2
-                (c.run_resting_bits-run.ensures.bits deeds x.2.stands),
+                (c.run_resting_bits-run.ensures.bits acts x.2.stands),
           );
     }
 
 pub returns-clause-turn : goal.returns-clause-turn
-returns-clause-turn g c = λ deeds h.
-    let s = some_since g.setup deeds c.args.self.now c.run_busy_bits-run.new.self c.loop-run.self
-    c.run_busy_bits-run.result c.loop-run.run h (c.run_busy_bits-run.ensures.bits deeds h)
-    (c.loop-run.invariant.some deeds) in
+returns-clause-turn g c = λ acts h.
+    let s = some_since g.setup acts c.args.self.now c.run_busy_bits-run.new.self c.loop-run.self
+    c.run_busy_bits-run.result c.loop-run.run h (c.run_busy_bits-run.ensures.bits acts h)
+    (c.loop-run.invariant.some acts) in
     let most = c.loop-run-test.false in let few = c.loop-run.invariant.most in
-    bus_all g.setup deeds c.args.self.now c.loop-run.self c.loop-run.run c.args.count
+    bus_all g.setup acts c.args.self.now c.loop-run.self c.loop-run.run c.args.count
     (omega (arith, most, few)) s
 
 pub returns-clause-stays : goal.returns-clause-stays

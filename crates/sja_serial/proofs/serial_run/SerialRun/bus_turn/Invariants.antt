@@ -1,5 +1,5 @@
 use Rattle.std.proofs.Common.{◌≡◌, ℕ, List, ◌+◌, ◌≤◌, ◌-◌}
-use Rattle.sja_driver.specs.Deeds.{Deed}
+use Rattle.sja_driver.specs.TypedActs.{TypedAct}
 use Rattle.sja_serial.specs.Serial.{SerialValue, StandsAt}
 use Rattle.sja_serial.proofs.ManyBits.SomeBits.{SomeBits}
 use Rattle.sja_serial.proofs.serial_run.SerialRun.bus_turn.Given as goal
@@ -7,9 +7,9 @@ use Rattle.sja_serial.proofs.serial_run.SerialRun.bus_turn.Given as goal
 abbrev pub invariant-loop-run : goal.invariant-loop-run
 invariant-loop-run g l = record {
   most : l.run ≤ l.count;
-  some : (deeds : List (List Deed)) → StandsAt g.setup l.initial.self deeds →
+  some : (acts : List (List TypedAct)) → StandsAt g.setup l.initial.self acts →
       (more : ℕ) × (l.run ≡ l.initial.run + more)
-      × SomeBits g.setup deeds (λ (r : SerialValue). Unit {0}) l.initial.self l.self more;
+      × SomeBits g.setup acts (λ (r : SerialValue). Unit {0}) l.initial.self l.self more;
 }
 
 abbrev pub decreases-loop-run : goal.decreases-loop-run

@@ -2,7 +2,7 @@ use Rattle.std.proofs.Common.{rules, ◌≡◌, ◌<◌, ◌++◌, ◌∷◌, []
 use Rattle.std.specs.Prelude.{slice_index_or, slice_set}
 use Rattle.std.proofs.lemmas.List.{get_or_default}
 use Rattle.sja_serial.specs.Inside.Accessing.{Enters}
-use Rattle.sja_serial.specs.Inside.Going.{run_now}
+use Rattle.sja_serial.specs.Inside.SerialProgress.{run_now}
 use Rattle.sja_serial.specs.Serial.{SerialValue}
 use Rattle.sja_driver.specs.declared.logged_driver.LoggedDriver.{LoggedDriver}
 use Rattle.sja_driver.specs.LoggedDrivers.{log_of}

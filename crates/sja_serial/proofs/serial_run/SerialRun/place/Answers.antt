@@ -1,10 +1,10 @@
 use Rattle.std.proofs.Common.{◌≡◌, ◌∙◌, ℕ, None, Some, ap, sym, subst}
 use Rattle.std.specs.Prelude.{option_map}
-use Rattle.sja_link.specs.Records.{record_of}
-use Rattle.sja_bus.specs.Placing.{HasPlace}
-use Rattle.sja_serial.specs.Placing.{named}
+use Rattle.sja_journal.specs.Records.{record_of}
+use Rattle.sja_bus.specs.BusPlaces.{HasPlace}
+use Rattle.sja_serial.specs.SerialPlaces.{named}
 use Rattle.sja_serial.specs.Serial.{SerialValue}
-use Rattle.sja_wire.specs.Wire.{journal_at}
+use Rattle.sja_bus_rules.specs.Wire.{journal_at}
 use Rattle.sja_serial.proofs.serial_run.SerialRun.place.Given.{Over}
 use Rattle.sja_serial.proofs.serial_run.SerialRun.place.Goals.{After-place}
 use Rattle.sja_serial.proofs.serial_run.SerialRun.place.Goals as goal

@@ -1,8 +1,8 @@
 use Rattle.std.proofs.Common.{rules, ◌≡◌, ℕ, suc, ◌+◌, ◌≤◌, false, List, subst, arith}
-use Rattle.sja_driver.specs.Deeds.{Deed}
+use Rattle.sja_driver.specs.TypedActs.{TypedAct}
 use Rattle.sja_serial.specs.Bits.{TakesBits}
 use Rattle.sja_serial.specs.Bits.TakesBits.{no_bit, one_more}
-use Rattle.sja_serial.specs.Placing.{IsElsewhere}
+use Rattle.sja_serial.specs.SerialPlaces.{IsElsewhere}
 use Rattle.sja_serial.specs.Serial.{SerialValue, StandsAt}
 use Rattle.sja_serial.proofs.WholeRun.GoingOn.{stands_bits}
 use Rattle.sja_serial.proofs.serial_run.SerialRun.place_turn.Goals as goal
@@ -10,7 +10,7 @@ use Rattle.sja_serial.proofs.serial_run.SerialRun.place_turn.Goals as goal
 pub loop-place-init : goal.loop-place-init
 loop-place-init g c = record {
   most = omega arith;
-  bits = λ deeds h. no_bit c.args.self.now;
+  bits = λ acts h. no_bit c.args.self.now;
   stays = c.requires.0;
 }
 
@@ -21,11 +21,11 @@ loop-place-preserved g c =
     let Before : SerialValue → Type 0 = IsElsewhere c.args.node c.args.place in
     let next : suc run ≡ run + 1 = omega arith in
     let away : c.is_at.result ≡ false = search rules in
-    let all : (deeds : List (List Deed)) → StandsAt g.setup was deeds →
-    TakesBits g.setup deeds Before was (run + 1) now =
-    λ deeds h. subst (λ (n : ℕ). TakesBits g.setup deeds Before was n now) next
-    (one_more was mid now run (i.bits deeds h) (c.is_at.ensures.no away)
-    (c.run_one_bit.ensures deeds (stands_bits g.setup deeds Before was mid run (i.bits deeds h) h))) in
+    let all : (acts : List (List TypedAct)) → StandsAt g.setup was acts →
+    TakesBits g.setup acts Before was (run + 1) now =
+    λ acts h. subst (λ (n : ℕ). TakesBits g.setup acts Before was n now) next
+    (one_more was mid now run (i.bits acts h) (c.is_at.ensures.no away)
+    (c.run_one_bit.ensures acts (stands_bits g.setup acts Before was mid run (i.bits acts h) h))) in
     record {
       most = omega (arith, less);
       bits = all;

@@ -1,7 +1,7 @@
 use Rattle.std.proofs.Common.{◌≤◌, ◌-◌, List}
-use Rattle.sja_driver.specs.Deeds.{Deed}
+use Rattle.sja_driver.specs.TypedActs.{TypedAct}
 use Rattle.sja_serial.specs.Bits.{TakesBits}
-use Rattle.sja_serial.specs.Placing.{IsElsewhere}
+use Rattle.sja_serial.specs.SerialPlaces.{IsElsewhere}
 use Rattle.sja_serial.specs.Serial.{StandsAt, IsRunOf}
 use Rattle.sja_serial.proofs.serial_run.SerialRun.place_turn.Given as goal
 
@@ -9,8 +9,8 @@ use Rattle.sja_serial.proofs.serial_run.SerialRun.place_turn.Given as goal
 abbrev pub invariant-loop-place : goal.invariant-loop-place
 invariant-loop-place g l = record {
   most : l.run ≤ l.limit;
-  bits : (deeds : List (List Deed)) → StandsAt g.setup l.initial.self deeds →
-      TakesBits g.setup deeds (IsElsewhere l.node l.place) l.initial.self l.run l.self;
+  bits : (acts : List (List TypedAct)) → StandsAt g.setup l.initial.self acts →
+      TakesBits g.setup acts (IsElsewhere l.node l.place) l.initial.self l.run l.self;
   stays : IsRunOf g.setup l.self;
 }
 

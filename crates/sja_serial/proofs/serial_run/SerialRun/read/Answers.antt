@@ -1,44 +1,44 @@
 use Rattle.std.proofs.Common.{[], ap, ◌∙◌, arith}
 use Rattle.std.specs.Prelude.{slice_index_or}
 use Rattle.sja_regs.specs.Registers.{at_power_on}
-use Rattle.sja_driver.specs.Deeds.{with_deeds}
+use Rattle.sja_driver.specs.TypedActs.{with_acts}
 use Rattle.sja_driver.specs.Kept.{moved_by_answer}
-use Rattle.sja_serial.specs.Serial.{all_deeds}
-use Rattle.sja_driver.specs.Reads.{raw_value}
-use Rattle.sja_serial.proofs.Deeds.Access.{deed_left, deeds_left, done_as_read, few_at, log_left, seen, tells_read}
-use Rattle.sja_serial.proofs.Deeds.Parts.{fits, no_deeds_yet}
+use Rattle.sja_serial.specs.Serial.{all_acts}
+use Rattle.sja_driver.specs.Reads.{value_by_bytes}
+use Rattle.sja_serial.proofs.TypedActs.StepRun.{act_left, acts_left, done_as_read, few_at, log_left, seen, tells_read}
+use Rattle.sja_serial.proofs.TypedActs.Parts.{fits, no_acts_yet}
 use Rattle.sja_serial.proofs.serial_run.SerialRun.read.Goals as goal
 
-pub deed-requires : goal.deed-requires
-deed-requires g c = deed_left c.requires.0.1 c.requires.1.0
+pub act-requires : goal.act-requires
+act-requires g c = act_left c.requires.0.1 c.requires.1.0
 
 pub enter-requires-clause-there : goal.enter-requires-clause-there
 enter-requires-clause-there g c =
     let h = c.requires.0.1 in let room = c.requires.1.0 in
-    let d = c.in-Some.ensures.done (all_deeds c.requires.0.0) h.stands (few_at h room) in
+    let d = c.in-Some.ensures.done (all_acts c.requires.0.0) h.stands (few_at h room) in
     let n = d.does.stands.count.drivers in let t = room.there in omega (arith, n, t)
 
 pub enter-requires-clause-room : goal.enter-requires-clause-room
 enter-requires-clause-room g c =
     let h = c.requires.0.1 in let room = c.requires.1.0 in
-    let d = c.in-Some.ensures.done (all_deeds c.requires.0.0) h.stands (few_at h room) in
-    log_left h room c.deed.new.self (λ x. d.logs c.args.node x room.there)
+    let d = c.in-Some.ensures.done (all_acts c.requires.0.0) h.stands (few_at h room) in
+    log_left h room c.act.new.self (λ x. d.logs c.args.node x room.there)
 
 pub unreachable-requires : goal.unreachable-requires
 unreachable-requires g c =
     let h = c.requires.0.1 in
-    (c.deed.ensures.waits c.in-None.is (all_deeds c.requires.0.0) h.stands (few_at h c.requires.1.0)).why
+    (c.act.ensures.waits c.in-None.is (all_acts c.requires.0.0) h.stands (few_at h c.requires.1.0)).why
     (at_power_on 1)
 
 pub returns : goal.returns
-returns g c = λ accesses h.
-    let room = c.requires.1.0 in let none = no_deeds_yet room.there h in let left = (deeds_left h room).0 in
-    let d = c.in-Some.ensures.done (with_deeds (all_deeds accesses) c.args.node []) none.stands
+returns g c = λ step_runs h.
+    let room = c.requires.1.0 in let none = no_acts_yet room.there h in let left = (acts_left h room).0 in
+    let d = c.in-Some.ensures.done (with_acts (all_acts step_runs) c.args.node []) none.stands
     (fits room.there h none (omega (arith, left))) in
     let ports = c.args.self.now.ports in
     done_as_read h room.there d c.enter.ensures c.requires.1.1 (λ x p. c.answered.ensures
     ∙ ap (λ k. moved_by_answer k c.in-Some.answer) (c.kept_by_step-kept.ensures x p))
     (λ x p. c.read_by-value.ensures (slice_index_or ports c.args.node p) (seen h room.there)
     (tells_read h room.there d p)
-    ∙ ap (λ k. raw_value (slice_index_or ports c.args.node p) k (seen h room.there) c.args.address)
+    ∙ ap (λ k. value_by_bytes (slice_index_or ports c.args.node p) k (seen h room.there) c.args.address)
     (c.kept_by_step-kept.ensures x p))

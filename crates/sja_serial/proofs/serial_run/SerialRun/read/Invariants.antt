@@ -1,4 +1,4 @@
 use Rattle.sja_serial.proofs.serial_run.SerialRun.read.Given as goal
 
-abbrev pub ghost-deed : goal.ghost-deed
-ghost-deed g a = g.setup
+abbrev pub ghost-act : goal.ghost-act
+ghost-act g a = g.setup

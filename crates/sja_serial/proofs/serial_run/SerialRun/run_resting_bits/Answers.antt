@@ -17,15 +17,15 @@ run_one_bit-requires g c =
     )
 
 pub returns-then-bits-eq0-clause-bits : goal.returns-then-bits-eq0-clause-bits
-returns-then-bits-eq0-clause-bits g c = λ deeds h.
-    let once = c.run_idle_bits-bits.ensures deeds h in let none : c.run_idle_bits-bits.result ≡ 0 = search rules in
-    none_then_one g.setup deeds c.args.self.now c.run_idle_bits-bits.new.self
+returns-then-bits-eq0-clause-bits g c = λ acts h.
+    let once = c.run_idle_bits-bits.ensures acts h in let none : c.run_idle_bits-bits.result ≡ 0 = search rules in
+    none_then_one g.setup acts c.args.self.now c.run_idle_bits-bits.new.self
     c.run_one_bit.new.self c.args.count
-    c.run_idle_bits-bits.result once none (c.run_one_bit.ensures deeds once.stands)
+    c.run_idle_bits-bits.result once none (c.run_one_bit.ensures acts once.stands)
 
 pub returns-clause-most : goal.returns-clause-most
 returns-clause-most g c = let h = c.requires.0 in (c.run_idle_bits-bits.ensures h.0 h.1).within
 
 pub returns-clause-bits : goal.returns-clause-bits
-returns-clause-bits g c = λ deeds h. let some : c.run_idle_bits-bits.result ≢ 0 = search rules in
-    (c.run_idle_bits-bits.ensures deeds h).some some
+returns-clause-bits g c = λ acts h. let some : c.run_idle_bits-bits.result ≢ 0 = search rules in
+    (c.run_idle_bits-bits.ensures acts h).some some

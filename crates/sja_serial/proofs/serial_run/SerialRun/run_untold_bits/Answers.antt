@@ -1,7 +1,7 @@
 use Rattle.std.proofs.Common.{◌≡◌, ◌+◌, false, arith, rules, sym, subst}
 use Rattle.std.specs.Prelude.{Ok}
 use Rattle.std.proofs.lemmas.List.{with_items_is}
-use Rattle.sja_script.specs.Striking.{Strikes}
+use Rattle.sja_steps.specs.Striking.{Strikes}
 use Rattle.sja_bus.specs.Boards.{HasOrders}
 use Rattle.sja_bus.specs.Moment.{moment}
 use Rattle.sja_bus.specs.UntilTold.{IsCalm, RunsNone}

@@ -1,19 +1,19 @@
 use Rattle.std.proofs.Common.{rules, ◌≡◌, ◌<◌, ℕ, List, length, refl, sym, ap, ◌∙◌, subst, arith}
 use Rattle.std.specs.Prelude.{slice_index_or, slice_set}
-use Rattle.sja_link.specs.declared.entry.Entry.{Entry}
+use Rattle.sja_journal.specs.declared.entry.Entry.{Entry}
 use Rattle.sja_regs.specs.declared.registers.Registers.{Registers}
 use Rattle.sja_regs.specs.Registers.{at_power_on}
-use Rattle.sja_script.specs.declared.done.Done.{Done}
-use Rattle.sja_driver.specs.declared.kept_bytes.KeptBytes.{KeptBytes}
+use Rattle.sja_steps.specs.declared.step_record.StepRecord.{StepRecord}
+use Rattle.sja_driver.specs.declared.unmodelled_registers.UnmodelledRegisters.{UnmodelledRegisters}
 use Rattle.sja_driver.specs.declared.logged_driver.LoggedDriver.{LoggedDriver}
-use Rattle.sja_driver.specs.Accesses.{Access}
-use Rattle.sja_driver.specs.Deeds.{Deed, deeds_at, is_active}
+use Rattle.sja_driver.specs.StepRuns.{StepRun}
+use Rattle.sja_driver.specs.TypedActs.{TypedAct, acts_at, is_active}
 use Rattle.sja_driver.specs.LoggedDrivers.{IsLawful, kept_of, log_of}
-use Rattle.sja_link.specs.Recents.{Recents}
-use Rattle.sja_log.specs.Registering.{AccessesLeadTo, seen_now}
-use Rattle.sja_wire.specs.Wire.{journal_at}
-use Rattle.sja_serial.specs.Serial.{SerialValue, StandsAt, StandsBy, IsAccessed, all_deeds}
-use Rattle.sja_serial.specs.Inside.Going.{run_now}
+use Rattle.sja_journal.specs.BoundedHistories.{HistoryValue}
+use Rattle.sja_promises.specs.Registering.{StepRunsLeadTo, seen_now}
+use Rattle.sja_bus_rules.specs.Wire.{journal_at}
+use Rattle.sja_serial.specs.Serial.{SerialValue, StandsAt, StandsBy, HasStepRuns, all_acts}
+use Rattle.sja_serial.specs.Inside.SerialProgress.{run_now}
 use Rattle.sja_serial.proofs.AllNodes.Several.{each_as, some_links}
 use Rattle.sja_serial.proofs.ManyBits.Borrowed.{run_is, stands_there}
 use Rattle.sja_serial.proofs.OneNode.Observed.{stands, seen_is}
@@ -47,38 +47,38 @@ seen-requires g c =
 -- ---- what comes of it
 
 -- what is said of the steps of a node hangs on its driver's list of them and on its kept bytes
-accessed_as : {version room : ℕ} {j : List Entry} {accesses : List Access} {p : Registers}
+has_step_runs_as : {version room : ℕ} {j : List Entry} {step_runs : List StepRun} {p : Registers}
     (was now : LoggedDriver) → (log_of now).done ≡ (log_of was).done → kept_of now ≡ kept_of was →
-    IsAccessed version room j accesses was p → IsAccessed version room j accesses now p
-accessed_as {version} {room} {j} {accesses} {p} was now done kept h = record {
-  led = subst (λ (k : KeptBytes). AccessesLeadTo version j accesses k p) (sym kept) h.led;
+    HasStepRuns version room j step_runs was p → HasStepRuns version room j step_runs now p
+has_step_runs_as {version} {room} {j} {step_runs} {p} was now done kept h = record {
+  led = subst (λ (k : UnmodelledRegisters). StepRunsLeadTo version j step_runs k p) (sym kept) h.led;
   done = h.done ∙ ap (λ v. v.items) (sym done);
-  room = ap (λ (v : Recents Done). v.room) done ∙ h.room;
+  room = ap (λ (v : HistoryValue StepRecord). v.room) done ∙ h.room;
 }
 
--- it stands at the same deeds
-same_deeds : {g : Over} (c : After-seen g) {deeds : List (List Deed)} → StandsAt g.setup c.args.self.now deeds →
+-- it stands at the same acts
+same_acts : {g : Over} (c : After-seen g) {acts : List (List TypedAct)} → StandsAt g.setup c.args.self.now acts →
     let b = c.self.inside in StandsAt g.setup (run_now b.bus
     (slice_set b.drivers.items c.from-index.result c.seen.new.self) b.board.ports.items
-    (slice_set b.links.items c.from-index.result c.seen.new.end) b.bits) deeds
-same_deeds {g} c {deeds} h =
+    (slice_set b.links.items c.from-index.result c.seen.new.end) b.bits) acts
+same_acts {g} c {acts} h =
     let at = c in
-    stands (stands_there refl c.self.view_is g.setup deeds h) (there at) c.index_mut.ensures.value
+    stands (stands_there refl c.self.view_is g.setup acts h) (there at) c.index_mut.ensures.value
     c.index_mut-end.ensures.value c.seen.ensures.looked c.seen.ensures.stays
 
 pub returns-clause-stands : goal.returns-clause-stands
-returns-clause-stands g c = λ deeds h. same_deeds (goal.at.returns-clause-stands g c).After-seen h
+returns-clause-stands g c = λ acts h. same_acts (goal.at.returns-clause-stands g c).After-seen h
 
 pub returns-clause-by : goal.returns-clause-by
-returns-clause-by g c = λ accesses h.
+returns-clause-by g c = λ step_runs h.
     let at = (goal.at.returns-clause-by g c).After-seen in let b = c.self.inside in
     let i = c.from-index.result in let drivers = b.drivers.items in let now = c.seen.new.self in
-    let own = stands_there refl c.self.view_is g.setup (all_deeds accesses) h.stands in
+    let own = stands_there refl c.self.view_is g.setup (all_acts step_runs) h.stands in
     let many : i < length drivers = let k = own.count.drivers in let t = there at in omega (arith, k, t) in
-    let here = subst (λ (r : SerialValue). StandsBy g.setup r accesses) (sym c.self.view_is) h in
+    let here = subst (λ (r : SerialValue). StandsBy g.setup r step_runs) (sym c.self.view_is) h in
     record {
-      stands = same_deeds at h.stands;
-      nodes = λ m d p less. accessed_as (slice_index_or drivers m d) (slice_index_or (slice_set drivers i now) m d)
+      stands = same_acts at h.stands;
+      nodes = λ m d p less. has_step_runs_as (slice_index_or drivers m d) (slice_index_or (slice_set drivers i now) m d)
           (each_as (λ (x : LoggedDriver). (log_of x).done) drivers i now c.index_mut.result.now m d many
           (c.seen.ensures.stays.done ∙ ap (λ x. (log_of x).done) c.index_mut.ensures.value))
           (each_as kept_of drivers i now c.index_mut.result.now m d many
@@ -96,13 +96,13 @@ returns-clause-kept g c = λ m d less.
     ∙ ap (λ (r : SerialValue). kept_of (slice_index_or r.drivers m d)) c.self.view_is
 
 pub returns-clause-seen : goal.returns-clause-seen
-returns-clause-seen g c = λ deeds h.
+returns-clause-seen g c = λ acts h.
     let at = (goal.at.returns-clause-seen g c).After-seen in let ports = c.self.inside.board.ports.items in
-    let own = stands_there refl c.self.view_is g.setup deeds h in
+    let own = stands_there refl c.self.view_is g.setup acts h in
     let run = run_is refl c.self.view_is in
     c.seen.ensures.seen
     ∙ seen_is own (there at) c.index_mut.ensures.value c.index_mut-end.ensures.value c.seen.ensures.looked
     c.seen.ensures.stays (c.bits_run.ensures.lawful own.right)
     (slice_index_or ports c.from-index.result (at_power_on 1))
-    ∙ (λ t. seen_now (is_active (deeds_at deeds (node_is at t))) (journal_at (run t).bus.journals (node_is at t))
-    (deeds_at deeds (node_is at t)))
+    ∙ (λ t. seen_now (is_active (acts_at acts (node_is at t))) (journal_at (run t).bus.journals (node_is at t))
+    (acts_at acts (node_is at t)))

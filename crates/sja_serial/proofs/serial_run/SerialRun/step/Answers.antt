@@ -1,11 +1,11 @@
 use Rattle.std.proofs.Common.{◌≡◌, ◌<◌, ◌≤◌, ℕ, true, false, arith}
 use Rattle.std.proofs.lemmas.Bool.{le-ltb, lt-ltb}
-use Rattle.sja_driver.specs.Accesses.{by_bytes}
-use Rattle.sja_serial.specs.Serial.{all_deeds}
+use Rattle.sja_driver.specs.StepRuns.{by_bytes}
+use Rattle.sja_serial.specs.Serial.{all_acts}
 use Rattle.sja_serial.proofs.serial_run.SerialRun.step.Goals as goal
 
 pub version-requires : goal.version-requires
-version-requires g c = (all_deeds c.requires.0.0, c.requires.0.1.stands)
+version-requires g c = (all_acts c.requires.0.0, c.requires.0.1.stands)
 
 -- in which versions reads and writes are those of bytes
 before_it : (version n : ℕ) → n ≡ version → n < 3 → by_bytes version ≡ false
@@ -14,8 +14,8 @@ before_it version n is few = le-ltb 2 version (omega (arith, is, few))
 since_it : (version n : ℕ) → n ≡ version → 3 ≤ n → by_bytes version ≡ true
 since_it version n is many = lt-ltb 2 version (omega (arith, is, many))
 
-pub one_deed-requires : goal.one_deed-requires
-one_deed-requires g c = (
+pub one_act-requires : goal.one_act-requires
+one_act-requires g c = (
   c.requires.0,
   (
     c.requires.1,

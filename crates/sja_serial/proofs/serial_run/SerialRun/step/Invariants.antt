@@ -1,7 +1,7 @@
 use Rattle.sja_serial.proofs.serial_run.SerialRun.step.Given as goal
 
-abbrev pub ghost-one_deed : goal.ghost-one_deed
-ghost-one_deed g a = g.setup
+abbrev pub ghost-one_act : goal.ghost-one_act
+ghost-one_act g a = g.setup
 
 abbrev pub ghost-read : goal.ghost-read
 ghost-read g a = g.setup

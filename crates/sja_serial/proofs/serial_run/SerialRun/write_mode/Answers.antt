@@ -1,7 +1,7 @@
 use Rattle.std.proofs.Common.{rules, ◌≡◌, sym, ap, ◌∙◌}
 use Rattle.std.specs.Prelude.{slice_index_or}
 use Rattle.sja_serial.specs.Serial.{SerialValue}
-use Rattle.sja_serial.proofs.Deeds.Parts.{driver_lawful, steps_there}
+use Rattle.sja_serial.proofs.TypedActs.Parts.{driver_lawful, steps_there}
 use Rattle.sja_serial.proofs.serial_run.SerialRun.write_mode.Goals as goal
 
 pub is_start-requires : goal.is_start-requires
@@ -23,7 +23,7 @@ write_alone-requires-then-is_start g c =
           c.requires.1.1,
           (
             tt,
-            λ accesses h p. sym (steps_there c.args.node c.index.result.now c.index-port.result.now h room.there
+            λ step_runs h p. sym (steps_there c.args.node c.index.result.now c.index-port.result.now h room.there
                 (c.index.ensures ∙ (λ i. slice_index_or (drivers i) (place i) c.index.result.now))
                 (c.index-port.ensures ∙ (λ i. slice_index_or (ports i) (place i) c.index-port.result.now)) p 0
                 c.args.value) ∙ c.is_start.ensures.alone c.if-is_start.true,

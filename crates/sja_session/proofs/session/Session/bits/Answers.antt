@@ -1,8 +1,8 @@
 use Rattle.std.proofs.Common.{rules, ◌≡◌, ℕ, ◌-◌, true, false, List, sym, subst, arith}
 use Rattle.std.specs.Prelude.{not}
-use Rattle.sja_driver.specs.Accesses.{Access}
+use Rattle.sja_driver.specs.StepRuns.{StepRun}
 use Rattle.sja_serial.specs.Bits.{TakesBusTurn}
-use Rattle.sja_serial.specs.Serial.{Setup, all_deeds, setup_in}
+use Rattle.sja_serial.specs.Serial.{Setup, all_acts, setup_in}
 use Rattle.sja_serial.proofs.AllNodes.Several.{at_own, from_own}
 use Rattle.sja_serial.proofs.WholeRun.GoingOn.{bits_run}
 use Rattle.sja_session.specs.Running.{RunsBits, MayRun}
@@ -39,14 +39,14 @@ run c = c.bits.result - c.bits-before.result
 run_is : (c : After-bits) → run c ≡ c.bus_turn.new.self.bits - c.self.inside.run.bits
 run_is c = λ i. c.bits.ensures i - c.bits-before.ensures i
 
--- they were run from the accesses at which it stood
-ran : (c : After-bits) (accesses : List (List Access)) → IsAt (was c) accesses →
-    TakesBusTurn (setup_by (was c)) (all_deeds accesses) c.self.inside.run c.bus_turn.new.self c.args.count
+-- they were run from the step runs at which it stood
+ran : (c : After-bits) (step_runs : List (List StepRun)) → IsAt (was c) step_runs →
+    TakesBusTurn (setup_by (was c)) (all_acts step_runs) c.self.inside.run c.bus_turn.new.self c.args.count
     c.bus_turn.result
-ran c accesses h = from_own (λ (x : Setup). TakesBusTurn x (all_deeds accesses) c.self.inside.run c.bus_turn.new.self
+ran c step_runs h = from_own (λ (x : Setup). TakesBusTurn x (all_acts step_runs) c.self.inside.run c.bus_turn.new.self
     c.args.count
     c.bus_turn.result) h.stands.stands
-    (c.bus_turn.ensures.turn (all_deeds accesses) (at_own h.stands.stands))
+    (c.bus_turn.ensures.turn (all_acts step_runs) (at_own h.stands.stands))
 
 may : (c : After-bits) → MayRun (was c) c.args.count
 may c = subst (λ (s : SessionValue). MayRun s c.args.count) (sym c.self.view_is)
@@ -54,23 +54,23 @@ may c = subst (λ (s : SessionValue). MayRun s c.args.count) (sym c.self.view_is
 
 pub overflow_sub-run : goal.overflow_sub-run
 overflow_sub-run c =
-    let inv = c.self.invariant.0 in let t = c.bus_turn.ensures.turn (all_deeds inv.accesses)
+    let inv = c.self.invariant.0 in let t = c.bus_turn.ensures.turn (all_acts inv.step_runs)
     (at_own inv.at.stands.stands) in
-    let b = bits_run (setup_in c.self.inside.run) (all_deeds inv.accesses) _ c.self.inside.run c.bus_turn.new.self
+    let b = bits_run (setup_in c.self.inside.run) (all_acts inv.step_runs) _ c.self.inside.run c.bus_turn.new.self
     t.run t.bits in
     let x = c.bits-before.ensures in let y = c.bits.ensures in omega (arith, b, x, y)
 
 pub overflow_cast-run : goal.overflow_cast-run
 overflow_cast-run c =
-    let inv = c.self.invariant.0 in let t = c.bus_turn.ensures.turn (all_deeds inv.accesses)
+    let inv = c.self.invariant.0 in let t = c.bus_turn.ensures.turn (all_acts inv.step_runs)
     (at_own inv.at.stands.stands) in
-    let b = bits_run (setup_in c.self.inside.run) (all_deeds inv.accesses) _ c.self.inside.run c.bus_turn.new.self
+    let b = bits_run (setup_in c.self.inside.run) (all_acts inv.step_runs) _ c.self.inside.run c.bus_turn.new.self
     t.run t.bits in
     let x = c.bits-before.ensures in let y = c.bits.ensures in let m = turn_most t in let f = c.ranges.count.fits in
     omega (arith, b, x, y, m, f)
 
 pub bus_turn-requires : goal.bus_turn-requires
-bus_turn-requires c = let inv = c.self.invariant.0 in (all_deeds inv.accesses, at_own inv.at.stands.stands)
+bus_turn-requires c = let inv = c.self.invariant.0 in (all_acts inv.step_runs, at_own inv.at.stands.stands)
 
 pub note_bits-requires-clause-room : goal.note_bits-requires-clause-room
 note_bits-requires-clause-room c = λ is. let inv = c.self.invariant.0 in let few = inv.few in let room = inv.room in
@@ -94,11 +94,11 @@ invariant_of-self c =
     )
 
 pub returns-clause-bits : goal.returns-clause-bits
-returns-clause-bits c = λ accesses h.
+returns-clause-bits c = λ step_runs h.
     let at = (goal.at.returns-clause-bits c).After-bits in let note = c.note_bits.ensures in
-    let own = subst (λ (s : SessionValue). IsAt s accesses) (sym c.self.view_is) h in
+    let own = subst (λ (s : SessionValue). IsAt s step_runs) (sym c.self.view_is) h in
     let then = session_of c.self.inside.room c.bus_turn.new.self
     (plan_with c.self.inside.plan c.self.inside.bits c.self.inside.struck.items)
     (listed c.self.inside.steps.items) c.note_bits.new.turns.items in
-    subst (λ (s : SessionValue). RunsBits s then c.args.count (run at) accesses) c.self.view_is
-    (runs own (ran at accesses own) (run_is at) c.note_bits.new.turns.items (λ end. note.turns (noted at end)))
+    subst (λ (s : SessionValue). RunsBits s then c.args.count (run at) step_runs) c.self.view_is
+    (runs own (ran at step_runs own) (run_is at) c.note_bits.new.turns.items (λ end. note.turns (noted at end)))

@@ -1,13 +1,13 @@
 use Rattle.std.proofs.Common.{rules, ◌≡◌, ◌∙◌, List, Err, refl, sym, ap, subst}
 use Rattle.lemmas.proofs.Results.{err_is}
-use Rattle.sja_driver.specs.Accesses.{Access}
+use Rattle.sja_driver.specs.StepRuns.{StepRun}
 use Rattle.sja_log.specs.declared.no_log.NoLog.{NoLog}
 use Rattle.sja_log.specs.declared.no_log.NoLog.TheVariants.{Endless as NoEnd, Memory as NoMemory}
-use Rattle.sja_log.specs.Runs.{IsSerialRun}
+use Rattle.sja_promises.specs.Runs.{IsSerialRun}
 use Rattle.sja_plan.specs.Plan.{PlanValue}
 use Rattle.sja_log.specs.declared.end.End.TheVariants.{Turns as TurnsDone}
 use Rattle.sja_serial.specs.Ending.{IsLogOf, MayBeOf}
-use Rattle.sja_serial.specs.Keeping.{KeepsRun}
+use Rattle.sja_serial.specs.LoggedRuns.{KeepsRun}
 use Rattle.sja_serial.specs.Serial.{Setup}
 use Rattle.sja_serial.proofs.AllNodes.Several.{by_own, many_steps, setup_is}
 use Rattle.sja_serial.proofs.WholeRun.Kept.{keeps_run}
@@ -20,7 +20,7 @@ use Rattle.sja_session.proofs.session.Session.finish.Goals.{In_ok-log}
 use Rattle.sja_session.proofs.session.Session.finish.Goals as goal
 
 pub finish-requires : goal.finish-requires
-finish-requires c = let inv = c.self.invariant.0 in (inv.accesses, by_own inv.at.stands)
+finish-requires c = let inv = c.self.invariant.0 in (inv.step_runs, by_own inv.at.stands)
 
 -- ---- the session as it was
 
@@ -33,35 +33,35 @@ was c = session_of c.self.inside.room c.self.inside.run
 with_end : (c : In_ok-log) → HasEnd (was c)
 with_end c = subst (λ (x : SessionValue). HasEnd x) (sym c.self.view_is) c.in_ok-plan.ensures.end
 
-log_is : (c : In_ok-log) (accesses : List (List Access)) → IsAt (was c) accesses →
-    IsLogOf (written (was c)) c.self.inside.run accesses TurnsDone c.in_ok-log.log
-log_is c accesses h = c.in_ok-log.ensures.log (written (was c)) accesses (by_own h.stands)
-    (subst (λ (s : Setup). MayBeOf (written (was c)) s accesses) (setup_is h.stands.stands)
-    (may_be_written (was c) accesses (with_end c) h))
+log_is : (c : In_ok-log) (step_runs : List (List StepRun)) → IsAt (was c) step_runs →
+    IsLogOf (written (was c)) c.self.inside.run step_runs TurnsDone c.in_ok-log.log
+log_is c step_runs h = c.in_ok-log.ensures.log (written (was c)) step_runs (by_own h.stands)
+    (subst (λ (s : Setup). MayBeOf (written (was c)) s step_runs) (setup_is h.stands.stands)
+    (may_be_written (was c) step_runs (with_end c) h))
 
 plan_is : (c : In_ok-log) → c.in_ok-plan.plan ≡ written (was c)
 plan_is c = c.in_ok-plan.ensures.plan ∙ ap written (sym c.self.view_is)
 
 pub returns-clause-own : goal.returns-clause-own
-returns-clause-own c = λ accesses h.
+returns-clause-own c = λ step_runs h.
     let at = (goal.at.returns-clause-own c).In_ok-log in
-    let own = subst (λ (x : SessionValue). IsAt x accesses) (sym c.self.view_is) h in
-    subst (λ (x : SessionValue). IsLogOf c.in_ok-plan.plan x.run accesses TurnsDone c.in_ok-log.log) c.self.view_is
-    (subst (λ (p : PlanValue). IsLogOf p c.self.inside.run accesses TurnsDone c.in_ok-log.log) (sym (plan_is at))
-    (log_is at accesses own))
+    let own = subst (λ (x : SessionValue). IsAt x step_runs) (sym c.self.view_is) h in
+    subst (λ (x : SessionValue). IsLogOf c.in_ok-plan.plan x.run step_runs TurnsDone c.in_ok-log.log) c.self.view_is
+    (subst (λ (p : PlanValue). IsLogOf p c.self.inside.run step_runs TurnsDone c.in_ok-log.log) (sym (plan_is at))
+    (log_is at step_runs own))
 
 pub returns-clause-headline : goal.returns-clause-headline
 returns-clause-headline c = λ k d less.
     let at = (goal.at.returns-clause-headline c).In_ok-log in let inv = c.self.invariant.0 in
-    ((log_is at inv.accesses inv.at).run.nodes k d less).account
+    ((log_is at inv.step_runs inv.at).run.nodes k d less).account
 
 pub returns-clause-run : goal.returns-clause-run
 returns-clause-run c =
     let at = (goal.at.returns-clause-run c).In_ok-log in let inv = c.self.invariant.0 in
     let s = was at in
     subst (λ (p : PlanValue). IsSerialRun p c.in_ok-log.log) (sym (plan_is at))
-    (serial_of (written s) s.run inv.accesses TurnsDone c.in_ok-log.log (many_steps inv.at.stands)
-    (log_is at inv.accesses inv.at) (turns_lead s inv.accesses inv.at (with_end at)))
+    (serial_of (written s) s.run inv.step_runs TurnsDone c.in_ok-log.log (many_steps inv.at.stands)
+    (log_is at inv.step_runs inv.at) (turns_lead s inv.step_runs inv.at (with_end at)))
 
 -- ---- why there is no log
 
@@ -74,7 +74,7 @@ pub returns-in_err-log-clause-err : goal.returns-in_err-log-clause-err
 returns-in_err-log-clause-err c =
     let n = c.in_err-log.field-0.0 in let inv = c.self.invariant.0 in
     let end = subst (λ (x : SessionValue). HasEnd x) (sym c.self.view_is) c.in_ok-plan.ensures.end in
-    let kept : KeepsRun c.self.inside.run = keeps_run _ c.self.inside.run inv.accesses inv.at.stands
+    let kept : KeepsRun c.self.inside.run = keeps_run _ c.self.inside.run inv.step_runs inv.at.stands
     (kept_by _ _ _ inv end) in
     let is : c.from_residual-in_err-log.result ≡ Err (no_plan_for n) = search rules in
     err_is (IsNoPlan c.args.self) c.from_residual-in_err-log.result (no_plan_for n) is (no_log c.args.self n

@@ -1,6 +1,6 @@
 use Rattle.std.proofs.Common.{◌≡◌, ℕ, List, ◌++◌, sym, ap, ◌∙◌, subst, append-nil}
 use Rattle.sja_plan.specs.Plan.{IsInLimits}
-use Rattle.sja_script.specs.declared.strike.Strike.{Strike}
+use Rattle.sja_steps.specs.declared.strike.Strike.{Strike}
 use Rattle.sja_session.specs.Sessions.{SessionValue, HasEnd}
 use Rattle.sja_session.proofs.StruckOnce.{none_beside, own_bits}
 use Rattle.sja_session.proofs.session.Session.limits.Goals as goal

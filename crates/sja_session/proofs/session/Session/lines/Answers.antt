@@ -11,13 +11,13 @@ with_line-lines-requires c =
 pub loop-place-preserved : goal.loop-place-preserved
 loop-place-preserved c =
     let inv = c.loop-place.invariant in let less = c.loop-place-test.true in record {
-      still = λ accesses at.
-          let s = inv.still accesses at in still_then s (c.is_active-line.ensures.still accesses s.at);
-      value = λ accesses at.
-          let s = inv.still accesses at in let same = nodes_same at s.at in let n = inv.nodes in
-          one_more (line_at c.args.self.now accesses) _ _ _ _ _ less
-          (c.is_active-line.ensures.line accesses s.at (omega (arith, n, same, less)) ∙ line_still s _)
-          (inv.value accesses at) c.with_line-lines.ensures;
+      still = λ step_runs at.
+          let s = inv.still step_runs at in still_then s (c.is_active-line.ensures.still step_runs s.at);
+      value = λ step_runs at.
+          let s = inv.still step_runs at in let same = nodes_same at s.at in let n = inv.nodes in
+          one_more (line_at c.args.self.now step_runs) _ _ _ _ _ less
+          (c.is_active-line.ensures.line step_runs s.at (omega (arith, n, same, less)) ∙ line_still s _)
+          (inv.value step_runs at) c.with_line-lines.ensures;
       few = more_few _ _ _ _ inv.few c.with_line-lines.ensures;
       nodes = inv.nodes;
       eight = inv.eight;
@@ -25,7 +25,7 @@ loop-place-preserved c =
     }
 
 pub returns-clause-lines : goal.returns-clause-lines
-returns-clause-lines c = λ accesses at.
+returns-clause-lines c = λ step_runs at.
     let inv = c.loop-place.invariant in
-    all_told (line_at c.args.self.now accesses) _ _ _ _ c.loop-place-test.false c.loop-place.auto.place-end inv.nodes
-    (inv.value accesses at)
+    all_told (line_at c.args.self.now step_runs) _ _ _ _ c.loop-place-test.false c.loop-place.auto.place-end inv.nodes
+    (inv.value step_runs at)

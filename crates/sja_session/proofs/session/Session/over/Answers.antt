@@ -3,13 +3,13 @@ use Rattle.std.proofs.Common.{subst, All, arith}
 use Rattle.std.specs.Prelude.{◌^◌, [], slice_index_or}
 use Rattle.std.proofs.lemmas.List.{length-replicate, get_or-replicate}
 use Rattle.sja_plan.specs.Plan.{PlanValue}
-use Rattle.sja_script.specs.declared.strike.Strike.{Strike}
-use Rattle.sja_link.specs.Sizes.{most_activations}
-use Rattle.sja_wire.specs.Buses.{new_bus}
+use Rattle.sja_steps.specs.declared.strike.Strike.{Strike}
+use Rattle.sja_journal.specs.Sizes.{most_activations}
+use Rattle.sja_bus_rules.specs.Buses.{new_bus}
 use Rattle.sja_session.specs.Sessions.{plan_with, run_version}
 use Rattle.sja_session.proofs.Lifetime.Blank.{session_first, at_first, wrote_first, stands_made, bus_made}
 use Rattle.sja_session.proofs.Lifetime.GoingBy.{bare_with, few_each, goes_first, one_bit, rules_first}
-use Rattle.sja_session.proofs.Lifetime.Versions.{deeds_as_plan}
+use Rattle.sja_session.proofs.Lifetime.Versions.{acts_as_plan}
 use Rattle.sja_session.proofs.WrittenPlan.OneMore.{listed, rooms_of}
 use Rattle.sja_session.proofs.session.Session.over.Goals.{In_ok-struck}
 use Rattle.sja_session.proofs.session.Session.over.Goals as goal
@@ -84,7 +84,7 @@ returns-clause-bus c =
     c.in_ok-run.run' c.in_ok-run.ensures.bus
     ∙ ap (λ (n : ℕ). new_bus plan.strikes bits (length plan.nodes)
     (most_activations (run_version (record plan { bits = bits }))) (replicate (length plan.nodes) n))
-    (deeds_as_plan (record plan { bits = bits }) rules c.args.room.steps)
+    (acts_as_plan (record plan { bits = bits }) rules c.args.room.steps)
 
 pub returns-clause-plan : goal.returns-clause-plan
 returns-clause-plan c =

@@ -2,14 +2,14 @@ use Rattle.std.proofs.Common.{◌≡◌, ◌≤◌, ℕ, List, ◌++◌, Vec, Gl
 use Rattle.std.proofs.Common.{subst, arith, append-nil}
 use Rattle.std.specs.Prelude.{[]}
 use Rattle.std.proofs.lemmas.List.{get_or_default, get_or-map, length-map}
-use Rattle.sja_link.specs.Recents.{KeepsAll, Recents}
+use Rattle.sja_journal.specs.BoundedHistories.{KeepsAll, HistoryValue}
 use Rattle.sja_plan.specs.declared.turn.Turn.{Turn}
 use Rattle.sja_plan.specs.Growing.{plan_of}
 use Rattle.sja_plan.specs.Limits.{most_bits, most_steps, most_turns, most_strikes}
 use Rattle.sja_plan.specs.Plan.{NamesNode, IsStrikeOn, times_in}
 use Rattle.sja_plan.proofs.PlanLimits.ByVersion.{steps_most}
-use Rattle.sja_script.specs.declared.step.Step.{Step}
-use Rattle.sja_script.specs.declared.strike.Strike.{Strike}
+use Rattle.sja_steps.specs.declared.step.Step.{Step}
+use Rattle.sja_steps.specs.declared.strike.Strike.{Strike}
 use Rattle.sja_session.specs.Sessions.{SessionValue, HasEnd, written}
 use Rattle.sja_session.proofs.StruckOnce.{none_beside, own_bits}
 use Rattle.sja_session.proofs.WrittenPlan.OneMore.{listed}
@@ -21,7 +21,7 @@ of-requires c =
     let b = c.self.inside in let inv = c.self.invariant.0 in let limits = c.limits.ensures in
     let end = subst (λ (x : SessionValue). HasEnd x) (sym c.self.view_is)
     (c.is_endless.ensures.no c.if-is_endless.false) in
-    let nodes = c.in_ok-nodes.ensures ∙ ap (λ (l : List (Recents Step)). listed l) c.as_slice.ensures.value in
+    let nodes = c.in_ok-nodes.ensures ∙ ap (λ (l : List (HistoryValue Step)). listed l) c.as_slice.ensures.value in
     let count = ap (λ (l : List (List Step)). length l) nodes ∙ inv.at.count in
     let turns = c.in_ok-turns.ensures ∙ c.as_slice-2.ensures.value in let strikes = c.in_ok-strikes.ensures in
     let version : b.plan.version ≡ c.version.result = sym c.version.ensures.value in record {
@@ -60,10 +60,11 @@ copied_steps-requires c =
     let b = c.self.inside in let inv = c.self.invariant.0 in
     let end = subst (λ (x : SessionValue). HasEnd x) (sym c.self.view_is)
     (c.is_endless.ensures.no c.if-is_endless.false) in
-    let count = length-map b.steps.items (λ (x : Recents Step). x.items) in let nodes = inv.at.count in
-    subst (λ (l : List (Recents Step)). All (λ (x : Recents Step). KeepsAll x.room) l) (sym c.as_slice.ensures.value)
+    let count = length-map b.steps.items (λ (x : HistoryValue Step). x.items) in let nodes = inv.at.count in
+    subst (λ (l : List (HistoryValue Step)). All (λ (x : HistoryValue Step). KeepsAll x.room) l)
+    (sym c.as_slice.ensures.value)
     (λ k d less.
-    let is = get_or-map (λ (x : Recents Step). x.room) b.steps.items k d 0 less in
+    let is = get_or-map (λ (x : HistoryValue Step). x.room) b.steps.items k d 0 less in
     let room = inv.places k (omega (arith, less, count, nodes)) in
     let few = inv.steps end in let all = steps_most b.plan.version in omega (arith, is, room, few, all))
 
@@ -74,7 +75,7 @@ returns-clause-plan c =
     let end = subst (λ (x : SessionValue). HasEnd x) (sym c.self.view_is)
     (c.is_endless.ensures.no c.if-is_endless.false) in
     let bits = c.bits-bits.ensures.value ∙ sym (own_bits b.plan b.bits b.struck end goes) in
-    let nodes = c.in_ok-nodes.ensures ∙ ap (λ (l : List (Recents Step)). listed l) c.as_slice.ensures.value in
+    let nodes = c.in_ok-nodes.ensures ∙ ap (λ (l : List (HistoryValue Step)). listed l) c.as_slice.ensures.value in
     let turns = c.in_ok-turns.ensures ∙ c.as_slice-2.ensures.value in
     let strikes = c.in_ok-strikes.ensures ∙ c.strikes.ensures.value ∙ sym (append-nil b.plan.strikes)
     ∙ ap (λ (l : List Strike). b.plan.strikes ++ l) (sym (none_beside b.plan b.bits b.struck end goes)) in

@@ -1,5 +1,5 @@
 use Rattle.std.proofs.Common.{rules, ap, ◌∙◌}
-use Rattle.sja_driver.specs.Inside.Answered.{value_or}
+use Rattle.sja_driver.specs.Answered.{value_or}
 use Rattle.sja_driver.specs.Kept.{kept_at}
 use Rattle.sja_session.proofs.StepsDone.ReadValue.{read_value}
 use Rattle.sja_session.proofs.session.Session.read.Goals as goal
@@ -10,8 +10,8 @@ unreachable-requires c =
     let s = c.stands.ensures in (c.step.ensures.waits (search rules) s.0 s.1).why
 
 pub returns-clause-reads : goal.returns-clause-reads
-returns-clause-reads c = λ accesses at.
-    let does = c.step.ensures.done c.in-Answer.answer (search rules) accesses at in record {
+returns-clause-reads c = λ step_runs at.
+    let does = c.step.ensures.done c.in-Answer.answer (search rules) step_runs at in record {
       answer = c.in-Answer.answer;
       does = does;
       is = λ d p. c.value_of.ensures

@@ -1,11 +1,11 @@
 use Rattle.std.proofs.Common.{rules, ◌≡◌, ℕ, ◌-◌, true, false, List, sym, subst, arith}
 use Rattle.std.specs.Prelude.{not}
-use Rattle.sja_driver.specs.Accesses.{Access}
+use Rattle.sja_driver.specs.StepRuns.{StepRun}
 use Rattle.sja_serial.specs.Bits.{TakesRest}
-use Rattle.sja_serial.specs.Serial.{Setup, all_deeds, setup_in}
+use Rattle.sja_serial.specs.Serial.{Setup, all_acts, setup_in}
 use Rattle.sja_serial.proofs.AllNodes.Several.{at_own, from_own}
 use Rattle.sja_serial.proofs.WholeRun.GoingOn.{bits_run}
-use Rattle.sja_session.specs.Resting.{Rests}
+use Rattle.sja_session.specs.SessionRest.{Rests}
 use Rattle.sja_session.specs.Running.{MayRun}
 use Rattle.sja_session.specs.Sessions.{SessionValue, HasEnd, IsAt, IsEndless, session_of, setup_by, plan_with}
 use Rattle.sja_session.proofs.BitsDone.AfterBits.{turn_fits, session_now}
@@ -40,14 +40,14 @@ run c = c.bits.result - c.bits-before.result
 run_is : (c : After-bits) → run c ≡ c.rest_turn-at_rest.new.self.bits - c.self.inside.run.bits
 run_is c = λ i. c.bits.ensures i - c.bits-before.ensures i
 
--- they were run from the accesses at which it stood
-rests : (c : After-bits) (accesses : List (List Access)) → IsAt (was c) accesses →
-    TakesRest (setup_by (was c)) (all_deeds accesses) c.self.inside.run c.rest_turn-at_rest.new.self
+-- they were run from the step runs at which it stood
+rests : (c : After-bits) (step_runs : List (List StepRun)) → IsAt (was c) step_runs →
+    TakesRest (setup_by (was c)) (all_acts step_runs) c.self.inside.run c.rest_turn-at_rest.new.self
     2000000 c.rest_turn-at_rest.result
-rests c accesses h = from_own (λ (x : Setup). TakesRest x (all_deeds accesses) c.self.inside.run
+rests c step_runs h = from_own (λ (x : Setup). TakesRest x (all_acts step_runs) c.self.inside.run
     c.rest_turn-at_rest.new.self
     2000000 c.rest_turn-at_rest.result) h.stands.stands
-    (c.rest_turn-at_rest.ensures.turn (all_deeds accesses) (at_own h.stands.stands))
+    (c.rest_turn-at_rest.ensures.turn (all_acts step_runs) (at_own h.stands.stands))
 
 may : (c : After-bits) → MayRun (was c) 1
 may c = subst (λ (s : SessionValue). MayRun s 1) (sym c.self.view_is)
@@ -55,23 +55,23 @@ may c = subst (λ (s : SessionValue). MayRun s 1) (sym c.self.view_is)
 
 pub overflow_sub-bits : goal.overflow_sub-bits
 overflow_sub-bits c =
-    let inv = c.self.invariant.0 in let t = c.rest_turn-at_rest.ensures.turn (all_deeds inv.accesses)
+    let inv = c.self.invariant.0 in let t = c.rest_turn-at_rest.ensures.turn (all_acts inv.step_runs)
     (at_own inv.at.stands.stands) in
-    let b = bits_run (setup_in c.self.inside.run) (all_deeds inv.accesses) _ c.self.inside.run
+    let b = bits_run (setup_in c.self.inside.run) (all_acts inv.step_runs) _ c.self.inside.run
     c.rest_turn-at_rest.new.self t.run
     t.bits in
     let x = c.bits-before.ensures in let y = c.bits.ensures in omega (arith, b, x, y)
 
 pub overflow_cast-bits : goal.overflow_cast-bits
 overflow_cast-bits c =
-    let inv = c.self.invariant.0 in let t = c.rest_turn-at_rest.ensures.turn (all_deeds inv.accesses)
+    let inv = c.self.invariant.0 in let t = c.rest_turn-at_rest.ensures.turn (all_acts inv.step_runs)
     (at_own inv.at.stands.stands) in
-    let b = bits_run (setup_in c.self.inside.run) (all_deeds inv.accesses) _ c.self.inside.run
+    let b = bits_run (setup_in c.self.inside.run) (all_acts inv.step_runs) _ c.self.inside.run
     c.rest_turn-at_rest.new.self t.run t.bits in
     let x = c.bits-before.ensures in let y = c.bits.ensures in let m = t.few in omega (arith, b, x, y, m)
 
 pub rest_turn-at_rest-requires : goal.rest_turn-at_rest-requires
-rest_turn-at_rest-requires c = let inv = c.self.invariant.0 in (all_deeds inv.accesses, at_own inv.at.stands.stands)
+rest_turn-at_rest-requires c = let inv = c.self.invariant.0 in (all_acts inv.step_runs, at_own inv.at.stands.stands)
 
 pub note_bits-requires-clause-room : goal.note_bits-requires-clause-room
 note_bits-requires-clause-room c = λ is. let inv = c.self.invariant.0 in let few = inv.few in let room = inv.room in
@@ -92,11 +92,11 @@ invariant_of-self c =
     )
 
 pub returns-clause-rests : goal.returns-clause-rests
-returns-clause-rests c = λ accesses h.
+returns-clause-rests c = λ step_runs h.
     let at = (goal.at.returns-clause-rests c).After-bits in let note = c.note_bits.ensures in
-    let own = subst (λ (s : SessionValue). IsAt s accesses) (sym c.self.view_is) h in
+    let own = subst (λ (s : SessionValue). IsAt s step_runs) (sym c.self.view_is) h in
     let then = session_of c.self.inside.room c.rest_turn-at_rest.new.self
     (plan_with c.self.inside.plan c.self.inside.bits c.self.inside.struck.items)
     (listed c.self.inside.steps.items) c.note_bits.new.turns.items in
-    subst (λ (s : SessionValue). Rests s then (run at) c.rest_turn-at_rest.result accesses) c.self.view_is
-    (rested own (rests at accesses own) (run_is at) c.note_bits.new.turns.items (λ end. note.turns (noted at end)))
+    subst (λ (s : SessionValue). Rests s then (run at) c.rest_turn-at_rest.result step_runs) c.self.view_is
+    (rested own (rests at step_runs own) (run_is at) c.note_bits.new.turns.items (λ end. note.turns (noted at end)))

@@ -2,14 +2,14 @@ use Rattle.std.proofs.Common.{rules, ◌≡◌, ◌<◌, ◌+◌, ℕ, true, fal
 use Rattle.std.proofs.Common.{ap, ◌∙◌, subst, arith}
 use Rattle.std.specs.Prelude.{Option, Some, [], Result, Ok, Err, not, slice_index_or, unwrap_or}
 use Rattle.std.proofs.lemmas.List.{length-map}
-use Rattle.sja_link.specs.Recents.{Recents}
+use Rattle.sja_journal.specs.BoundedHistories.{HistoryValue}
 use Rattle.sja_plan.specs.declared.turn.Turn.{Turn}
 use Rattle.sja_plan.specs.declared.turn.Turn.TheVariants.{Node}
-use Rattle.sja_script.specs.declared.done.Done.{Done as StepDone}
-use Rattle.sja_script.specs.declared.step.Step.{Step}
-use Rattle.sja_script.specs.declared.step_answer.StepAnswer.{StepAnswer}
-use Rattle.sja_script.specs.declared.step_answer.StepAnswer.TheVariants.{Done}
-use Rattle.sja_driver.specs.Accesses.{Access}
+use Rattle.sja_steps.specs.declared.step_record.StepRecord.{StepRecord as StepDone}
+use Rattle.sja_steps.specs.declared.step.Step.{Step}
+use Rattle.sja_steps.specs.declared.step_answer.StepAnswer.{StepAnswer}
+use Rattle.sja_steps.specs.declared.step_answer.StepAnswer.TheVariants.{Done}
+use Rattle.sja_driver.specs.StepRuns.{StepRun}
 use Rattle.sja_driver.specs.declared.logged_driver.LoggedDriver.{LoggedDriver}
 use Rattle.sja_driver.specs.LoggedDrivers.{log_of}
 use Rattle.sja_driver.specs.Logs.{done_in}
@@ -77,26 +77,26 @@ not_noted c = not_noted_of c.is_endless.result (was c) c.args.self.now c.self.vi
 may : (c : After-step) → MayStep (was c) c.args.node
 may c = subst (λ (s : SessionValue). MayStep s c.args.node) (sym c.self.view_is) c.in_ok-may_step.ensures.ok
 
-did : (c : After-step) (accesses : List (List Access)) → IsAt (was c) accesses → c.step.result ≡ true →
-    DoesOnRun (setup_by (was c)) c.self.inside.run c.step.new.self c.args.node c.args.step accesses
-did c accesses h is_done = from_own (λ (x : Setup). DoesOnRun x c.self.inside.run c.step.new.self c.args.node
+did : (c : After-step) (step_runs : List (List StepRun)) → IsAt (was c) step_runs → c.step.result ≡ true →
+    DoesOnRun (setup_by (was c)) c.self.inside.run c.step.new.self c.args.node c.args.step step_runs
+did c step_runs h is_done = from_own (λ (x : Setup). DoesOnRun x c.self.inside.run c.step.new.self c.args.node
     c.args.step
-    accesses)
-    h.stands.stands (c.step.ensures.done is_done accesses (by_own h.stands))
+    step_runs)
+    h.stands.stands (c.step.ensures.done is_done step_runs (by_own h.stands))
 
-waited : (c : After-step) (accesses : List (List Access)) → IsAt (was c) accesses → c.step.result ≡ false →
-    WaitsFor (setup_by (was c)) c.self.inside.run c.step.new.self c.args.node c.args.step accesses
-waited c accesses h is_left =
-    from_own (λ (x : Setup). WaitsFor x c.self.inside.run c.step.new.self c.args.node c.args.step accesses)
-    h.stands.stands (c.step.ensures.waits is_left accesses (by_own h.stands))
+waited : (c : After-step) (step_runs : List (List StepRun)) → IsAt (was c) step_runs → c.step.result ≡ false →
+    WaitsFor (setup_by (was c)) c.self.inside.run c.step.new.self c.args.node c.args.step step_runs
+waited c step_runs h is_left =
+    from_own (λ (x : Setup). WaitsFor x c.self.inside.run c.step.new.self c.args.node c.args.step step_runs)
+    h.stands.stands (c.step.ensures.waits is_left step_runs (by_own h.stands))
 
 pub step-requires : goal.step-requires
 step-requires c =
     let b = c.self.inside in let inv = c.self.invariant.0 in
     let may = subst (λ (s : SessionValue). MayStep s c.args.node) (sym c.self.view_is) c.in_ok-may_step.ensures.ok in (
-      (inv.accesses, by_own inv.at.stands),
+      (inv.step_runs, by_own inv.at.stands),
       subst (λ (x : Setup). HasRoomLeft x b.run c.args.node) (setup_is inv.at.stands.stands)
-          (room_left (plan_with b.plan b.bits b.struck.items) b.run (listed b.steps.items) b.turns.items inv.accesses
+          (room_left (plan_with b.plan b.bits b.struck.items) b.run (listed b.steps.items) b.turns.items inv.step_runs
           c.args.node inv.at may),
     )
 
@@ -106,20 +106,20 @@ invariant_of-self c =
       after_waiting (plan_with c.self.inside.plan c.self.inside.bits c.self.inside.struck.items) c.self.inside.run
           c.step.new.self (listed c.self.inside.steps.items)
           c.self.inside.turns.items c.args.node c.args.step _ (vec_capacity c.self.inside.turns) inv (may at)
-          (waited at inv.accesses inv.at (search rules)),
+          (waited at inv.step_runs inv.at (search rules)),
       c.self.invariant.1,
     )
 
 pub returns-then-not-step-clause-waits : goal.returns-then-not-step-clause-waits
-returns-then-not-step-clause-waits c = λ e accesses h.
+returns-then-not-step-clause-waits c = λ e step_runs h.
     let at = (goal.at.returns-then-not-step-clause-waits c).After-step in let b = c.self.inside in
-    let own = subst (λ (s : SessionValue). IsAt s accesses) (sym c.self.view_is) h in
+    let own = subst (λ (s : SessionValue). IsAt s step_runs) (sym c.self.view_is) h in
     subst (λ (s : SessionValue). Waits s (session_of b.room c.step.new.self (plan_with b.plan b.bits b.struck.items)
     (listed b.steps.items)
-    b.turns.items) c.args.node c.args.step accesses) c.self.view_is
+    b.turns.items) c.args.node c.args.step step_runs) c.self.view_is
     (waits_step (plan_with b.plan b.bits b.struck.items) b.run c.step.new.self (listed b.steps.items) b.turns.items
-    accesses c.args.node c.args.step
-    (may at).there own (waited at accesses own (search rules)))
+    step_runs c.args.node c.args.step
+    (may at).there own (waited at step_runs own (search rules)))
 
 -- a step that has to wait has no answer
 pub returns-then-not-step-clause-done : goal.returns-then-not-step-clause-done
@@ -134,7 +134,7 @@ pub push_step-requires-clause-there : goal.push_step-requires-clause-there
 push_step-requires-clause-there c =
     let at = (goal.at.push_step-requires-clause-there c).After-step in
     let there = (may at).there in let n = c.self.invariant.0.at.count in let e = place_is at in
-    let many = length-map c.self.inside.steps.items (λ (x : Recents Step). x.items) in
+    let many = length-map c.self.inside.steps.items (λ (x : HistoryValue Step). x.items) in
     omega (arith, there, n, e, many)
 
 pub push_step-requires-clause-room : goal.push_step-requires-clause-room
@@ -154,40 +154,40 @@ pub note-requires-clause-fits : goal.note-requires-clause-fits
 note-requires-clause-fits c = λ is.
     let at = (goal.at.note-requires-clause-fits c).After-step in let inv = c.self.invariant.0 in
     let end = with_end at is in
-    let few = last_few (was at) inv.accesses inv.at inv.done end (inv.steps end) in omega (arith, few)
+    let few = last_few (was at) inv.step_runs inv.at inv.done end (inv.steps end) in omega (arith, few)
 
 pub last_answer-requires : goal.last_answer-requires
 last_answer-requires c =
     let at = (goal.at.last_answer-requires c).After-step in let inv = c.self.invariant.0 in
-    let t = did at inv.accesses inv.at (search rules) in
+    let t = did at inv.step_runs inv.at (search rules) in
     let d = t.stands.stands.count.drivers in let n = inv.at.count in let m = (may at).there in let e = place_is at in
     omega (arith, d, n, m, e)
 
--- the log's last answer is that of the deed
-answer_of : (c : After-step) (accesses : List (List Access)) (h : IsAt (was c) accesses)
+-- the log's last answer is that of the act
+answer_of : (c : After-step) (step_runs : List (List StepRun)) (h : IsAt (was c) step_runs)
     (is_done : c.step.result ≡ true) →
     (x : LoggedDriver) → last_of (λ (y : StepDone). y.answer)
     (done_in (log_of (slice_index_or c.step.new.self.drivers c.from-place.result x)))
-    ≡ Some (did c accesses h is_done).access.answer
-answer_of c accesses h is_done x =
+    ≡ Some (did c step_runs h is_done).step_run.answer
+answer_of c step_runs h is_done x =
     ap (λ k. last_of (λ (y : StepDone). y.answer) (done_in (log_of (slice_index_or c.step.new.self.drivers k x))))
     (place_is c)
     ∙ answer_is (plan_with c.self.inside.plan c.self.inside.bits c.self.inside.struck.items) c.self.inside.run
     c.step.new.self (listed c.self.inside.steps.items)
-    c.self.inside.turns.items accesses c.args.node c.args.step (may c).there h (did c accesses h is_done) x
+    c.self.inside.turns.items step_runs c.args.node c.args.step (may c).there h (did c step_runs h is_done) x
 
 pub unreachable-requires : goal.unreachable-requires
 unreachable-requires c =
     let at = (goal.at.unreachable-requires c).After-step in let inv = c.self.invariant.0 in
     let k = inv.at.stands.stands.count.drivers in let n = inv.at.count in let m = (may at).there in
     let x = first_driver c.self.inside.run.drivers (omega (arith, k, n, m)) in
-    let some = answer_of at inv.accesses inv.at (search rules) x in
+    let some = answer_of at inv.step_runs inv.at (search rules) x in
     let own = c.last_answer.ensures x in let none = c.in-None.is in cc (some, own, none)
 
 pub invariant_of-self-2 : goal.invariant_of-self-2
 invariant_of-self-2 c =
     let at = (goal.at.invariant_of-self-2 c).After-step in let inv = c.self.invariant.0 in let b = c.self.inside in
-    let t = did at inv.accesses inv.at (search rules) in
+    let t = did at inv.step_runs inv.at (search rules) in
     let wrote : listed c.push_step.new.lists.items ≡ with_more (listed b.steps.items) c.args.node c.args.step =
     c.push_step.ensures.lists ∙ ap (λ k. with_more (listed b.steps.items) k c.args.step) (place_is at) in (
       subst (λ (k : ℕ). IsSession (session_of b.room c.step.new.self (plan_with b.plan b.bits b.struck.items)
@@ -209,25 +209,25 @@ invariant_of-self-2 c =
     )
 
 pub returns-clause-done : goal.returns-clause-done
-returns-clause-done c = λ answer e accesses h.
+returns-clause-done c = λ answer e step_runs h.
     let at = (goal.at.returns-clause-done c).After-step in let b = c.self.inside in
-    let own = subst (λ (s : SessionValue). IsAt s accesses) (sym c.self.view_is) h in
+    let own = subst (λ (s : SessionValue). IsAt s step_runs) (sym c.self.view_is) h in
     let is_done : c.step.result ≡ true = search rules in
-    let t = did at accesses own is_done in
+    let t = did at step_runs own is_done in
     let k = own.stands.stands.count.drivers in let n = own.count in let m = (may at).there in
     let x = first_driver b.run.drivers (omega (arith, k, n, m)) in
-    let whole = sym (answer_of at accesses own is_done x) ∙ sym (c.last_answer.ensures x) ∙ c.in-Some.is in
-    let same : t.access.answer ≡ answer = ap (λ (o : Option StepAnswer). unwrap_or o answer) whole
+    let whole = sym (answer_of at step_runs own is_done x) ∙ sym (c.last_answer.ensures x) ∙ c.in-Some.is in
+    let same : t.step_run.answer ≡ answer = ap (λ (o : Option StepAnswer). unwrap_or o answer) whole
     ∙ ap (λ (r : Result StepOutcome StepFault). answer_in r answer) e in
     let wrote : listed c.push_step.new.lists.items ≡ with_more (listed b.steps.items) c.args.node c.args.step =
     c.push_step.ensures.lists ∙ ap (λ k. with_more (listed b.steps.items) k c.args.step) (place_is at) in
     subst (λ (s : SessionValue). DoesStep s (session_of b.room c.step.new.self (plan_with b.plan b.bits b.struck.items)
-    (listed c.push_step.new.lists.items) c.note.new.turns.items) c.args.node c.args.step answer accesses)
+    (listed c.push_step.new.lists.items) c.note.new.turns.items) c.args.node c.args.step answer step_runs)
     c.self.view_is
     (subst (λ (l : List (List Step)). DoesStep (was at) (session_of b.room c.step.new.self
     (plan_with b.plan b.bits b.struck.items) l
-    c.note.new.turns.items) c.args.node c.args.step answer accesses) (sym wrote)
+    c.note.new.turns.items) c.args.node c.args.step answer step_runs) (sym wrote)
     (does_step (plan_with b.plan b.bits b.struck.items) b.run c.step.new.self (listed b.steps.items) b.turns.items
-    accesses c.args.node c.args.step
+    step_runs c.args.node c.args.step
     (may at).there own t c.self.invariant.0.rules answer same c.note.new.turns.items
     (λ end. turn_of b.turns.items _ _ c.args.node (c.note.ensures.turns (noted at end)) (omega arith))))

@@ -1,8 +1,8 @@
 use Rattle.std.proofs.Common.{◌≡◌, ◌≤◌, List, vec_capacity, sym, ap, ◌∙◌, subst}
 use Rattle.sja_plan.specs.Plan.{PlanValue}
 use Rattle.sja_plan.specs.Struck.{one_strike}
-use Rattle.sja_script.specs.declared.strike.Strike.{Strike}
-use Rattle.sja_driver.specs.Accesses.{Access}
+use Rattle.sja_steps.specs.declared.strike.Strike.{Strike}
+use Rattle.sja_driver.specs.StepRuns.{StepRun}
 use Rattle.sja_serial.specs.Serial.{StandsBy}
 use Rattle.sja_serial.specs.Striking.{struck_run, struck_setup}
 use Rattle.sja_session.specs.Inside.Written.{GoesBy}
@@ -42,11 +42,11 @@ now_is c =
     (none_beside b.plan b.bits b.struck (with_end c) c.self.invariant.1) in
     λ i. session_of b.room (run_is c i) (plan i) (listed b.steps.items) b.turns.items
 
-at_them : (c : In-Ok-strike) (accesses : List (List Access)) → IsAt (was c) accesses →
-    IsAt (struck_session (was c) c.args.node c.args.bit) accesses
-at_them c accesses h = struck_at_them (was c) c.args.node c.args.bit c.strike-2.new.self accesses (run_is c)
-    (subst (λ (s : Strike). StandsBy (struck_setup (setup_by (was c)) s) c.strike-2.new.self accesses)
-    c.one_strike.ensures (c.in-Ok-strike.ensures.by (setup_by (was c)) accesses h.stands)) h
+at_them : (c : In-Ok-strike) (step_runs : List (List StepRun)) → IsAt (was c) step_runs →
+    IsAt (struck_session (was c) c.args.node c.args.bit) step_runs
+at_them c step_runs h = struck_at_them (was c) c.args.node c.args.bit c.strike-2.new.self step_runs (run_is c)
+    (subst (λ (s : Strike). StandsBy (struck_setup (setup_by (was c)) s) c.strike-2.new.self step_runs)
+    c.one_strike.ensures (c.in-Ok-strike.ensures.by (setup_by (was c)) step_runs h.stands)) h
 
 pub invariant_of-self-in-Ok-strike : goal.invariant_of-self-in-Ok-strike
 invariant_of-self-in-Ok-strike c =
@@ -54,19 +54,19 @@ invariant_of-self-in-Ok-strike c =
     let b = c.self.inside in (
       subst (λ (s : SessionValue). IsSession s (rooms_of b.steps.items) (vec_capacity b.turns)) (sym (now_is at))
           (session_at (struck_run b.run (one_strike c.args.node c.args.bit))
-          (struck_session (was at) c.args.node c.args.bit).plan.strikes inv (at_them at inv.accesses inv.at)),
+          (struck_session (was at) c.args.node c.args.bit).plan.strikes inv (at_them at inv.step_runs inv.at)),
       subst (λ (p : PlanValue). GoesBy p b.bits b.struck) (sym c.in-Ok.ensures.struck)
           (still_goes b.plan b.bits b.struck c.args.node c.args.bit (with_end at) c.self.invariant.1),
     )
 
 pub returns-in-Ok-strike-clause-struck : goal.returns-in-Ok-strike-clause-struck
-returns-in-Ok-strike-clause-struck c = λ accesses h.
+returns-in-Ok-strike-clause-struck c = λ step_runs h.
     let at = (goal.at.returns-in-Ok-strike-clause-struck c).In-Ok-strike in
-    let own = subst (λ (s : SessionValue). IsAt s accesses) (sym c.self.view_is) h in
-    subst (λ (s : SessionValue). IsStruck s (now at) c.args.node c.args.bit accesses) c.self.view_is (record {
+    let own = subst (λ (s : SessionValue). IsAt s step_runs) (sym c.self.view_is) h in
+    subst (λ (s : SessionValue). IsStruck s (now at) c.args.node c.args.bit step_runs) c.self.view_is (record {
       ahead = subst (λ (s : SessionValue). s.run.bits ≤ c.args.bit) (sym c.self.view_is)
           c.in_ok-check_bit.ensures.ahead.1;
       is = now_is at;
-      at = subst (λ (s : SessionValue). IsAt s accesses) (sym (now_is at)) (at_them at accesses own);
+      at = subst (λ (s : SessionValue). IsAt s step_runs) (sym (now_is at)) (at_them at step_runs own);
       wrote = ap written (now_is at);
     })

@@ -1,7 +1,7 @@
 use Rattle.std.proofs.Common.{◌≡◌, ◌≤◌, List, [], ◌∷◌, ◌++◌, vec_capacity, sym, ap, ◌∙◌, subst}
 use Rattle.sja_plan.specs.Struck.{one_strike}
-use Rattle.sja_script.specs.declared.strike.Strike.{Strike}
-use Rattle.sja_driver.specs.Accesses.{Access}
+use Rattle.sja_steps.specs.declared.strike.Strike.{Strike}
+use Rattle.sja_driver.specs.StepRuns.{StepRun}
 use Rattle.sja_serial.specs.Serial.{StandsBy}
 use Rattle.sja_serial.specs.Striking.{struck_run, struck_setup}
 use Rattle.sja_session.specs.Sessions.{SessionValue, IsAt, IsEndless, IsSession, plan_with}
@@ -35,11 +35,11 @@ now_is c =
     ∙ struck_beside b.plan b.bits b.struck.items c.args.node c.args.bit in
     λ i. session_of b.room (run_is c i) (plan i) (listed b.steps.items) b.turns.items
 
-at_them : (c : After-push) (accesses : List (List Access)) → IsAt (was c) accesses →
-    IsAt (struck_session (was c) c.args.node c.args.bit) accesses
-at_them c accesses h = struck_at_them (was c) c.args.node c.args.bit c.strike.new.self accesses (run_is c)
-    (subst (λ (s : Strike). StandsBy (struck_setup (setup_by (was c)) s) c.strike.new.self accesses)
-    c.one_strike-strike.ensures (c.in_ok-strike.ensures.by (setup_by (was c)) accesses h.stands)) h
+at_them : (c : After-push) (step_runs : List (List StepRun)) → IsAt (was c) step_runs →
+    IsAt (struck_session (was c) c.args.node c.args.bit) step_runs
+at_them c step_runs h = struck_at_them (was c) c.args.node c.args.bit c.strike.new.self step_runs (run_is c)
+    (subst (λ (s : Strike). StandsBy (struck_setup (setup_by (was c)) s) c.strike.new.self step_runs)
+    c.one_strike-strike.ensures (c.in_ok-strike.ensures.by (setup_by (was c)) step_runs h.stands)) h
 
 pub invariant_of-self-2 : goal.invariant_of-self-2
 invariant_of-self-2 c =
@@ -47,18 +47,18 @@ invariant_of-self-2 c =
     let far = subst (λ (s : SessionValue). IsEndless s) (sym c.self.view_is) c.requires.endless in (
       subst (λ (s : SessionValue). IsSession s (rooms_of b.steps.items) (vec_capacity b.turns)) (sym (now_is at))
           (session_at (struck_run b.run (one_strike c.args.node c.args.bit))
-          (struck_session (was at) c.args.node c.args.bit).plan.strikes inv (at_them at inv.accesses inv.at)),
+          (struck_session (was at) c.args.node c.args.bit).plan.strikes inv (at_them at inv.step_runs inv.at)),
       goes_beside b.plan b.bits b.struck c.push.new.self c.limits.ensures.bits.1 far c.push.ensures.room
           c.self.invariant.1,
     )
 
 pub returns-clause-struck : goal.returns-clause-struck
-returns-clause-struck c = λ accesses h.
+returns-clause-struck c = λ step_runs h.
     let at = (goal.at.returns-clause-struck c).After-push in
-    let own = subst (λ (s : SessionValue). IsAt s accesses) (sym c.self.view_is) h in
-    subst (λ (s : SessionValue). IsStruck s (now at) c.args.node c.args.bit accesses) c.self.view_is (record {
+    let own = subst (λ (s : SessionValue). IsAt s step_runs) (sym c.self.view_is) h in
+    subst (λ (s : SessionValue). IsStruck s (now at) c.args.node c.args.bit step_runs) c.self.view_is (record {
       ahead = subst (λ (s : SessionValue). s.run.bits ≤ c.args.bit) (sym c.self.view_is) c.requires.ahead;
       is = now_is at;
-      at = subst (λ (s : SessionValue). IsAt s accesses) (sym (now_is at)) (at_them at accesses own);
+      at = subst (λ (s : SessionValue). IsAt s step_runs) (sym (now_is at)) (at_them at step_runs own);
       wrote = ap written (now_is at);
     })

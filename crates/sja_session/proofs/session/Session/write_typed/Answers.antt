@@ -4,15 +4,15 @@ use Rattle.std.proofs.lemmas.List.{get_or_default, length-append}
 use Rattle.std.proofs.lemmas.Result.{err_from_is_err_and}
 use Rattle.sja_link.specs.NewLinks.{new_links}
 use Rattle.sja_regs.specs.Registers.{at_power_on}
-use Rattle.sja_script.specs.declared.step.Step.{Step}
+use Rattle.sja_steps.specs.declared.step.Step.{Step}
 use Rattle.sja_driver.specs.declared.logged_driver.LoggedDriver.{LoggedDriver}
-use Rattle.sja_driver.specs.Accesses.{Access, accesses_at, deeds_in}
+use Rattle.sja_driver.specs.StepRuns.{StepRun, step_runs_at, acts_in}
 use Rattle.sja_driver.specs.AnyDrivers.{is_out}
-use Rattle.sja_driver.specs.Deeds.{is_active}
+use Rattle.sja_driver.specs.TypedActs.{is_active}
 use Rattle.sja_driver.specs.LoggedDrivers.{IsLawful, driver_of}
 use Rattle.sja_driver.specs.WriteLists.{listed, steps_in}
 use Rattle.sja_driver.specs.Writes.{write_steps}
-use Rattle.sja_serial.proofs.Deeds.Parts.{all_at}
+use Rattle.sja_serial.proofs.TypedActs.Parts.{all_at}
 use Rattle.sja_session.specs.ByAddress.{DoesSteps, IsAccessFault, MayDo, steps_by}
 use Rattle.sja_session.specs.Inside.Accessing.{AreSteps, Does}
 use Rattle.sja_session.specs.Sessions.{SessionValue, IsAt}
@@ -23,7 +23,7 @@ use Rattle.sja_session.proofs.session.Session.write_typed.Goals as goal
 -- the write is these steps
 are : (c : After-steps_of_write-steps) → c.args.node < length c.args.self.now.plan.nodes →
     AreSteps c.args.self.now c.args.node c.args.address c.args.value (steps_in c.steps_of_write-steps.result)
-are c there = λ accesses h p.
+are c there = λ step_runs h p.
     let was = c.args.self.now in let node = c.args.node in
     let place : c.from-place.result ≡ node = search rules in
     let ports = ap (λ (s : SessionValue). s.run.ports) c.self.view_is in
@@ -33,13 +33,13 @@ are c there = λ accesses h p.
     let port_is : c.port-port.result.now ≡ slice_index_or was.run.ports node p = c.port-port.ensures
     ∙ (λ i. slice_index_or (ports i) (place i) c.port-port.result.now)
     ∙ get_or_default was.run.ports node c.port-port.result.now p near in
-    let out_is : is_out (driver_of c.driver.result.now) ≡ is_active (deeds_in (accesses_at accesses node)) =
+    let out_is : is_out (driver_of c.driver.result.now) ≡ is_active (acts_in (step_runs_at step_runs node)) =
     ap (λ (d : LoggedDriver). is_out (driver_of d)) (c.driver.ensures
     ∙ (λ i. slice_index_or (drivers i) (place i) c.driver.result.now))
     ∙ sym (h.stands.stands.nodes node c.driver.result.now (at_power_on 1) (new_links node 0) many).traced.traces.out
-    ∙ ap is_active (all_at accesses node) in
+    ∙ ap is_active (all_at step_runs node) in
     ap (λ (b : Bool). steps_by b (slice_index_or was.run.ports node p)
-    (is_active (deeds_in (accesses_at accesses node))) c.args.address c.args.value) c.requires.typed
+    (is_active (acts_in (step_runs_at step_runs node))) c.args.address c.args.value) c.requires.typed
     ∙ sym (c.steps_of_write-steps.ensures.are
     ∙ (λ i. write_steps (port_is i) (out_is i) c.args.address c.args.value))
 
@@ -63,11 +63,11 @@ returns-in_err-may_do c =
     let told = err_from_is_err_and c.from_residual.result c.from_residual.ensures.1 in (
       search rules,
       search rules,
-      rw (told.1, told.2) (λ accesses h p.
+      rw (told.1, told.2) (λ step_runs h p.
           let at = (goal.at.returns-in_err-may_do c).After-steps_of_write-steps in
           let there : c.args.node < length c.args.self.now.plan.nodes = search rules in
           subst (λ (n : ℕ). IsAccessFault c.args.self.now c.args.node n c.in_err-may_do.field-0.0)
-          (c.count_of.ensures ∙ ap (λ (l : List Step). length l) (sym (are at there accesses h p)))
+          (c.count_of.ensures ∙ ap (λ (l : List Step). length l) (sym (are at there step_runs h p)))
           c.in_err-may_do.ensures.err),
       search rules,
     )
@@ -96,13 +96,13 @@ may_all c =
     omega (arith, c.count_of.ensures, n, k) in
     subst (MayDo (was c) c.args.node) e c.in_ok-may_do.ensures.ok
 
-first : (c : After-do_if) (accesses : List (List Access)) → IsAt (was c) accesses →
-    Does (was c) c.do_if.new.self c.args.node (one c) accesses
-first c accesses at = c.do_if.ensures accesses at
+first : (c : After-do_if) (step_runs : List (List StepRun)) → IsAt (was c) step_runs →
+    Does (was c) c.do_if.new.self c.args.node (one c) step_runs
+first c step_runs at = c.do_if.ensures step_runs at
 
 -- it stands somewhere
-somewhere : (c : After-do_if) → IsAt (was c) c.self.invariant.0.accesses
-somewhere c = subst (λ (s : SessionValue). IsAt s c.self.invariant.0.accesses) c.self.view_is c.self.invariant.0.at
+somewhere : (c : After-do_if) → IsAt (was c) c.self.invariant.0.step_runs
+somewhere c = subst (λ (s : SessionValue). IsAt s c.self.invariant.0.step_runs) c.self.view_is c.self.invariant.0.at
 
 pub do_if-requires-2-clause-may : goal.do_if-requires-2-clause-may
 do_if-requires-2-clause-may c =
@@ -121,26 +121,26 @@ do_if-requires-3-clause-may c =
 
 pub returns : goal.returns
 returns c = (
-  (λ accesses h.
+  (λ step_runs h.
       let at = (goal.at.returns c).After-do_if in let node = c.args.node in
-      let d = first at accesses h in
+      let d = first at step_runs h in
       let d2 = c.do_if-2.ensures d.after d.at in
       let d3 = c.do_if-3.ensures d2.after d2.at in
       let others = does_both c.do_if.new.self c.do_if-2.new.self c.do_if-3.new.self node (two at) (three at) d.after d2
       d3 in
-      let whole = does_both (was at) c.do_if.new.self c.do_if-3.new.self node (one at) (two at ++ three at) accesses d
+      let whole = does_both (was at) c.do_if.new.self c.do_if-3.new.self node (one at) (two at ++ three at) step_runs d
       others in record {
         answers = whole.answers;
         after = whole.after;
         does = λ p. subst (λ (l : List Step).
-            DoesSteps node (was at) accesses l whole.answers c.do_if-3.new.self whole.after)
-            (sym (are (goal.at.returns c).After-steps_of_write-steps (may_all at).there accesses h p)) whole.does;
+            DoesSteps node (was at) step_runs l whole.answers c.do_if-3.new.self whole.after)
+            (sym (are (goal.at.returns c).After-steps_of_write-steps (may_all at).there step_runs h p)) whole.does;
       }),
-  (λ accesses h p.
+  (λ step_runs h p.
       let at = (goal.at.returns c).After-do_if in
       subst (λ (n : ℕ). MayDo c.args.self.now c.args.node n)
       (c.count_of.ensures ∙ ap (λ (l : List Step). length l)
-      (sym (are (goal.at.returns c).After-steps_of_write-steps (may_all at).there accesses h p)))
+      (sym (are (goal.at.returns c).After-steps_of_write-steps (may_all at).there step_runs h p)))
       c.in_ok-may_do.ensures.ok),
   search rules,
   search rules,

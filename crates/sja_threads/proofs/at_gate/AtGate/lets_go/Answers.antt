@@ -1,6 +1,6 @@
 use Rattle.std.proofs.Common.{subst}
-use Rattle.sja_threads.specs.declared.pass.Pass.{Pass}
-use Rattle.sja_threads.specs.declared.pass.Pass.TheVariants.{Hold}
+use Rattle.sja_thread_promises.specs.declared.pass.Pass.{Pass}
+use Rattle.sja_thread_promises.specs.declared.pass.Pass.TheVariants.{Hold}
 use Rattle.sja_threads.proofs.Driver.Asked.{hold_on}
 use Rattle.sja_threads.proofs.at_gate.AtGate.lets_go.Goals as goal
 

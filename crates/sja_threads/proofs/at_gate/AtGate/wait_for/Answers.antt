@@ -1,5 +1,5 @@
 use Rattle.std.proofs.Common.{refl, true, false}
-use Rattle.sja_threads.specs.declared.pass.Pass.TheVariants.{Go}
+use Rattle.sja_thread_promises.specs.declared.pass.Pass.TheVariants.{Go}
 use Rattle.sja_threads.proofs.Driver.Asked.{go_on, when}
 use Rattle.sja_threads.proofs.at_gate.AtGate.wait_for.Goals as goal
 

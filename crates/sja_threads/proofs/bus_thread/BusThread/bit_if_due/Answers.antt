@@ -2,7 +2,7 @@ use Rattle.std.proofs.Common.{rules, ◌≡◌, List, Err, length, refl, sym, su
 use Rattle.std.specs.Vec.{with_items}
 use Rattle.std.proofs.lemmas.List.{with_items_is}
 use Rattle.lemmas.proofs.Results.{err_is}
-use Rattle.sja_link.specs.Links.{AreEnds, HaveLinks}
+use Rattle.sja_journal.specs.Links.{AreEnds, HaveLinks}
 use Rattle.sja_rings.specs.declared.node_bus.NodeBus.{NodeBus}
 use Rattle.sja_rings.specs.NodeRings.{links_of_bus, node_of_bus}
 use Rattle.sja_threads.specs.Inside.Boards.{turns_in}

@@ -2,10 +2,10 @@ use Rattle.std.proofs.Common.{◌≡◌, List, length, refl, sym, subst, arith}
 use Rattle.std.specs.Prelude.{OnOk}
 use Rattle.std.specs.Vec.{with_items}
 use Rattle.std.proofs.lemmas.List.{with_items_is}
-use Rattle.sja_link.specs.Links.{AreEnds, HaveLinks}
+use Rattle.sja_journal.specs.Links.{AreEnds, HaveLinks}
 use Rattle.sja_rings.specs.declared.node_bus.NodeBus.{NodeBus}
 use Rattle.sja_rings.specs.NodeRings.{links_of_bus, node_of_bus, ShowsNothingUp}
-use Rattle.sja_wire.specs.Buses.{AllDry}
+use Rattle.sja_bus_rules.specs.Buses.{AllDry}
 use Rattle.sja_threads.proofs.Rounds.GoesOn.{gathered}
 use Rattle.sja_threads.proofs.Rounds.Stops.{stops_gather}
 use Rattle.sja_threads.proofs.Rounds.Told.{told_gather}

@@ -7,26 +7,26 @@ pub returns-in_default-clause-parts : goal.returns-in_default-clause-parts
 returns-in_default-clause-parts g c =
     part_none g.D.DriverEnd g.met.D.DriverEnd.same_refl c.args.self.now c.args.part.now c.args.on.now c.in_default.is
 
-pub returns-in_default-do_deed-clause-parts : goal.returns-in_default-do_deed-clause-parts
-returns-in_default-do_deed-clause-parts g c =
-    part_not g.D.DriverEnd c.args.self.now c.do_deed.new.self c.args.part.now c.in-Some.deed c.do_deed.result
-    c.args.on.now c.in-Some.is c.in_default-do_deed.is c.do_deed.ensures.done
+pub returns-in_default-do_act-clause-parts : goal.returns-in_default-do_act-clause-parts
+returns-in_default-do_act-clause-parts g c =
+    part_not g.D.DriverEnd c.args.self.now c.do_act.new.self c.args.part.now c.in-Some.act c.do_act.result
+    c.args.on.now c.in-Some.is c.in_default-do_act.is c.do_act.ensures.done
 
 pub returns-clause-parts : goal.returns-clause-parts
 returns-clause-parts g c =
-    part_done g.D.DriverEnd c.args.self.now c.do_deed.new.self c.args.part.now c.in-Some.deed c.do_deed.result
-    c.in-Some-do_deed.answer c.args.on.now c.answered.new.self c.in-Some.is c.in-Some-do_deed.is
-    c.do_deed.ensures.done c.answered.ensures
+    part_done g.D.DriverEnd c.args.self.now c.do_act.new.self c.args.part.now c.in-Some.act c.do_act.result
+    c.in-Some-do_act.answer c.args.on.now c.answered.new.self c.in-Some.is c.in-Some-do_act.is
+    c.do_act.ensures.done c.answered.ensures
 
 pub returns-in_default-clause-answered : goal.returns-in_default-clause-answered
 returns-in_default-clause-answered g c = c.requires.go
 
-pub returns-in_default-do_deed-clause-answered : goal.returns-in_default-do_deed-clause-answered
-returns-in_default-do_deed-clause-answered g c =
-    when_if g.G.Gate.answered c.args.at.now.gate _ _ c.args.number c.do_deed.new.tries refl c.do_deed.result None
-    c.in_default-do_deed.is c.do_deed.ensures.answered
+pub returns-in_default-do_act-clause-answered : goal.returns-in_default-do_act-clause-answered
+returns-in_default-do_act-clause-answered g c =
+    when_if g.G.Gate.answered c.args.at.now.gate _ _ c.args.number c.do_act.new.tries refl c.do_act.result None
+    c.in_default-do_act.is c.do_act.ensures.answered
 
 pub returns-clause-answered : goal.returns-clause-answered
 returns-clause-answered g c =
-    when_if g.G.Gate.answered c.args.at.now.gate _ _ c.args.number c.do_deed.new.tries refl c.do_deed.result
-    (Some c.in-Some-do_deed.answer) c.in-Some-do_deed.is c.do_deed.ensures.answered
+    when_if g.G.Gate.answered c.args.at.now.gate _ _ c.args.number c.do_act.new.tries refl c.do_act.result
+    (Some c.in-Some-do_act.answer) c.in-Some-do_act.is c.do_act.ensures.answered

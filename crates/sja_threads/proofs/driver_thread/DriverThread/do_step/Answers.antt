@@ -1,6 +1,6 @@
 use Rattle.std.proofs.Common.{sym, subst}
-use Rattle.sja_script.specs.declared.step.Step.{Step}
-use Rattle.sja_threads.specs.Inside.Accesses.{BreaksOff, DoesStep}
+use Rattle.sja_steps.specs.declared.step.Step.{Step}
+use Rattle.sja_threads.specs.Inside.StepRuns.{BreaksOff, DoesStep}
 use Rattle.sja_threads.proofs.driver_thread.DriverThread.do_step.Goals as goal
 
 pub returns-in-Write-clause-quits : goal.returns-in-Write-clause-quits

@@ -2,13 +2,13 @@ use Rattle.std.proofs.Common.{take, rules, ℕ, ◌≡◌, ◌-◌, ◌+◌, min
 use Rattle.std.proofs.Common.{[], ◌∷◌, length, refl, sym, ap, ◌∙◌, subst, arith}
 use Rattle.std.proofs.lemmas.List.{length-append, take_more}
 use Rattle.lemmas.proofs.Numbers.{earlier_or_last}
-use Rattle.sja_script.specs.declared.done.Done.{Done}
-use Rattle.sja_script.specs.declared.step.Step.{Step}
-use Rattle.sja_driver.specs.Accesses.{done_of}
+use Rattle.sja_steps.specs.declared.step_record.StepRecord.{StepRecord}
+use Rattle.sja_steps.specs.declared.step.Step.{Step}
+use Rattle.sja_driver.specs.StepRuns.{step_record_of}
 use Rattle.sja_driver.specs.LoggedDrivers.{log_of}
 use Rattle.sja_driver.specs.Logs.{done_in}
-use Rattle.sja_threads.specs.Asking.{IsLet, number_after}
-use Rattle.sja_threads.specs.Inside.Accesses.{HasDone}
+use Rattle.sja_thread_promises.specs.Asking.{IsLet, number_after}
+use Rattle.sja_threads.specs.Inside.StepRuns.{HasDone}
 use Rattle.sja_threads.proofs.Driver.Asked.{has_when, when}
 use Rattle.sja_threads.proofs.Driver.Script.{done_none, done_more, ended_all, ended_by, step_able, step_less}
 use Rattle.sja_threads.proofs.driver_thread.DriverThread.do_steps.Goals as goal
@@ -23,7 +23,7 @@ loop-k-init g c =
           c.requires.traces c.requires.kept c.requires.found c.requires.empty;
       asks = laws.first_step c.args.at.now.gate c.args.self.now.done.node;
       number = omega arith;
-      count = ap (λ (l : List Done). length l) c.requires.empty.done;
+      count = ap (λ (l : List StepRecord). length l) c.requires.empty.done;
       go = λ before less. absurd (omega (arith, less));
     }
 
@@ -53,8 +53,8 @@ loop-k-preserved g c =
           let more : next ≡ min (c.loop-k.number + 1) 4294967295 = search rules in omega (arith, before, more);
       count =
           let before = c.loop-k.invariant.count in
-          let more = ap (λ (l : List Done). length l) does.done in
-          let long = length-append (done_in (log_of c.loop-k.self.driver)) (done_of does.access ∷ []) in
+          let more = ap (λ (l : List StepRecord). length l) does.done in
+          let long = length-append (done_in (log_of c.loop-k.self.driver)) (step_record_of does.step_run ∷ []) in
           omega (arith, before, more, long);
       go = λ before less. elim (earlier_or_last before k less) [
         | inl earlier ↦ c.loop-k.invariant.go before earlier

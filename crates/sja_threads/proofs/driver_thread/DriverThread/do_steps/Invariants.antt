@@ -1,9 +1,9 @@
 use Rattle.std.proofs.Common.{◌≡◌, ◌<◌, ◌-◌, ℕ, take, length}
 use Rattle.sja_driver.specs.LoggedDrivers.{log_of}
 use Rattle.sja_driver.specs.Logs.{done_in}
-use Rattle.sja_threads.specs.declared.pass.Pass.TheVariants.{Go}
-use Rattle.sja_threads.specs.Asking.{HasAnswered, number_after}
-use Rattle.sja_threads.specs.Inside.Accesses.{HasDone}
+use Rattle.sja_thread_promises.specs.declared.pass.Pass.TheVariants.{Go}
+use Rattle.sja_thread_promises.specs.Asking.{HasAnswered, number_after}
+use Rattle.sja_threads.specs.Inside.StepRuns.{HasDone}
 use Rattle.sja_threads.specs.Inside.Steps.{MayStep}
 use Rattle.sja_threads.proofs.driver_thread.DriverThread.do_steps.Given as goal
 

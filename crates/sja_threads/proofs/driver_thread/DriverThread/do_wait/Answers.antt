@@ -1,12 +1,12 @@
 use Rattle.std.proofs.Common.{◌≡◌, ℕ, true, sym, ◌∙◌, subst}
 use Rattle.std.specs.Prelude.{Option, IfSome}
-use Rattle.sja_driver.specs.Accesses.{by_bytes}
+use Rattle.sja_driver.specs.StepRuns.{by_bytes}
 use Rattle.sja_driver.specs.LoggedDrivers.{log_of}
-use Rattle.sja_driver.specs.declared.kept_bytes.KeptBytes.{KeptBytes}
-use Rattle.sja_script.specs.declared.step.Step.TheVariants.{At}
-use Rattle.sja_script.specs.declared.step_answer.StepAnswer.{StepAnswer}
-use Rattle.sja_threads.specs.Asking.{HasAnswered, pass_if}
-use Rattle.sja_threads.specs.Inside.Accesses.{EndsWait}
+use Rattle.sja_driver.specs.declared.unmodelled_registers.UnmodelledRegisters.{UnmodelledRegisters}
+use Rattle.sja_steps.specs.declared.step.Step.TheVariants.{At}
+use Rattle.sja_steps.specs.declared.step_answer.StepAnswer.{StepAnswer}
+use Rattle.sja_thread_promises.specs.Asking.{HasAnswered, pass_if}
+use Rattle.sja_threads.specs.Inside.StepRuns.{EndsWait}
 use Rattle.sja_threads.proofs.Driver.OneStep.{broken_before}
 use Rattle.sja_threads.proofs.Driver.Waits.{wait_done}
 use Rattle.sja_threads.proofs.driver_thread.DriverThread.do_wait.Goals as goal
@@ -23,7 +23,7 @@ returns-clause-done g c = λ done.
     wait_done g.D.DriverEnd c.args.self.now c.enter.new.self c.in-Some.found c.args.bits c.in-Some.answer
     (subst (λ (r : Option (StepAnswer × ℕ)). IfSome r (EndsWait c.args.bits)) c.in-Some.is c.wait_for.ensures.ends)
     g.met.D.DriverEnd.same_refl (
-      subst (λ (k : KeptBytes). c.enter.new.self
+      subst (λ (k : UnmodelledRegisters). c.enter.new.self
           ≡ record driver { kept = k; log = record (log_of driver) { done = (log_of c.enter.new.self).done } })
           c.kept-kept.ensures e.rest,
       e.done,

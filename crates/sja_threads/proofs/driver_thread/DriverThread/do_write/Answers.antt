@@ -1,8 +1,8 @@
 use Rattle.std.proofs.Common.{◌≡◌, true, false, refl, sym, ap, ◌∙◌, subst}
 use Rattle.sja_driver.specs.WriteLists.{steps_in}
 use Rattle.sja_threads.specs.Inside.Steps.{DoesParts}
-use Rattle.sja_driver.specs.Accesses.{by_bytes}
-use Rattle.sja_script.specs.declared.step.Step.TheVariants.{Write}
+use Rattle.sja_driver.specs.StepRuns.{by_bytes}
+use Rattle.sja_steps.specs.declared.step.Step.TheVariants.{Write}
 use Rattle.sja_threads.proofs.Driver.Asked.{when}
 use Rattle.sja_threads.proofs.Driver.OneStep.{begun_last, broken_before, write_broken, write_done}
 use Rattle.sja_threads.proofs.driver_thread.DriverThread.do_write.Goals as goal
@@ -38,7 +38,7 @@ returns-clause-done g c = λ done.
     c.do_parts.result c.begin_write-steps.result.1 c.do_parts.new.on) c.begin_write-steps.ensures.same
     c.do_parts.ensures.parts) (e.rest, e.done, e.room) c.answer.ensures bytes
 
--- the gate let the write go, and then the last of its deeds, or it quit
+-- the gate let the write go, and then the last of its acts, or it quit
 pub returns-then-not-lets_go-clause-answered : goal.returns-then-not-lets_go-clause-answered
 returns-then-not-lets_go-clause-answered g c = (
   c.lets_go.new.tries,

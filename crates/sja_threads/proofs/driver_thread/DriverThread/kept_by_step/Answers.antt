@@ -1,5 +1,5 @@
 use Rattle.std.proofs.Common.{rules, ◌≡◌}
-use Rattle.sja_driver.specs.Accesses.{kept_written}
+use Rattle.sja_driver.specs.StepRuns.{kept_written}
 use Rattle.sja_driver.specs.LoggedDrivers.{kept_of}
 use Rattle.sja_threads.proofs.Driver.Settings.{registers_with, has_those}
 use Rattle.sja_threads.proofs.driver_thread.DriverThread.kept_by_step.Goals as goal

@@ -1,6 +1,6 @@
 use Rattle.std.proofs.Common.{ℕ, false, sym, ap, ◌∙◌, subst}
-use Rattle.sja_threads.specs.declared.notice.Notice.TheVariants.{Spent}
-use Rattle.sja_threads.specs.Ordering.{abort_told, bits_told, ended_told}
+use Rattle.sja_thread_promises.specs.declared.port_update.PortUpdate.TheVariants.{Spent}
+use Rattle.sja_thread_promises.specs.Ordering.{abort_told, bits_told, ended_told}
 use Rattle.sja_threads.specs.Inside.Names.{IsNamed}
 use Rattle.sja_threads.proofs.Twin.Led.{abort_push, ended_spent, led_spent, spent_push}
 use Rattle.sja_threads.proofs.locked_port.LockedPort.close.Goals as goal
@@ -8,9 +8,9 @@ use Rattle.sja_threads.proofs.locked_port.LockedPort.close.Goals as goal
 pub invariant_of-self : goal.invariant_of-self
 invariant_of-self g c = let inv = c.self.invariant in let a = c.add.ensures in record {
   turns = subst (λ (n : ℕ). IsNamed g.N.Order.turns c.self.inside.node n) (sym a.kept_name) inv.turns;
-  deeds = inv.deeds;
+  acts = inv.acts;
   bits = inv.bits ∙ sym (ap bits_told a.kept ∙ spent_push 0 c.self.inside.turns.list);
-  led = led_spent g.N.Order.version c.self.inside.turns.list c.add.new.kept.list c.self.inside.deeds.list
+  led = led_spent g.N.Order.version c.self.inside.turns.list c.add.new.kept.list c.self.inside.acts.list
       c.self.inside.port c.close.new.self c.close.ensures a.kept inv.led;
 }
 

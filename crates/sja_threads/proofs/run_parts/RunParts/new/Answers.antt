@@ -1,6 +1,6 @@
 use Rattle.std.proofs.Common.{rules, ◌≤◌, ◌^◌, ℕ, List, sym, subst}
 use Rattle.std.specs.Prelude.{All}
-use Rattle.sja_threads.proofs.Start.FewDeeds.{all_few}
+use Rattle.sja_threads.proofs.Start.FewActs.{all_few}
 use Rattle.sja_threads.proofs.run_parts.RunParts.new.Goals as goal
 
 pub new-requires-clause-steps : goal.new-requires-clause-steps

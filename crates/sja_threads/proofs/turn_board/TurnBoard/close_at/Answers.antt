@@ -1,5 +1,5 @@
 use Rattle.std.proofs.Common.{refl}
-use Rattle.sja_threads.specs.declared.notice.Notice.TheVariants.{Spent}
+use Rattle.sja_thread_promises.specs.declared.port_update.PortUpdate.TheVariants.{Spent}
 use Rattle.sja_threads.proofs.Twin.Boards.{told_here, told_there}
 use Rattle.sja_threads.proofs.turn_board.TurnBoard.close_at.Goals as goal
 

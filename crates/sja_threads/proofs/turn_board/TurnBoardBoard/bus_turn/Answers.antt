@@ -1,6 +1,6 @@
 use Rattle.std.proofs.Common.{◌≡◌, ◌++◌, ◌∷◌, [], ℕ, ◌∙◌, subst, arith}
 use Rattle.std.specs.Prelude.{slice_set}
-use Rattle.sja_threads.specs.declared.notice.Notice.TheVariants.{Turn}
+use Rattle.sja_thread_promises.specs.declared.port_update.PortUpdate.TheVariants.{Turn}
 use Rattle.sja_threads.specs.Inside.Boards.{turns_at, turns_in}
 use Rattle.sja_threads.proofs.Twin.Boards.{told_here, told_there}
 use Rattle.sja_threads.proofs.turn_board.TurnBoardBoard.bus_turn.Goals as goal

@@ -1,5 +1,5 @@
 use Rattle.std.proofs.Common.{◌≡◌, ◌++◌, ◌∷◌, [], ℕ, ap, ◌∙◌, subst}
-use Rattle.sja_threads.specs.declared.notice.Notice.TheVariants.{Spent}
+use Rattle.sja_thread_promises.specs.declared.port_update.PortUpdate.TheVariants.{Spent}
 use Rattle.sja_threads.specs.Inside.Boards.{turns_at, turns_in}
 use Rattle.sja_threads.proofs.turn_board.TurnBoardBoard.close.Goals as goal
 

@@ -1,5 +1,5 @@
 use Rattle.std.proofs.Common.{rules, ◌≡◌, ℕ, true, subst, arith}
-use Rattle.sja_threads.specs.Ordering.{abort_told}
+use Rattle.sja_thread_promises.specs.Ordering.{abort_told}
 use Rattle.sja_threads.specs.Inside.Boards.{turns_at, turns_in}
 use Rattle.sja_threads.proofs.Twin.Boards.{abort_at}
 use Rattle.sja_threads.proofs.turn_board.TurnBoardBoard.orders.Goals as goal

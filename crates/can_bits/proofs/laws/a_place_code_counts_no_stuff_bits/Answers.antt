@@ -1,5 +1,0 @@
-use Rattle.can_bits.proofs.PlaceLaws.{place_means}
-use Rattle.can_bits.proofs.laws.a_place_code_counts_no_stuff_bits.Goals as goal
-
-pub returns : goal.returns
-returns c = place_means

@@ -1,5 +1,0 @@
-use Rattle.can_bits.proofs.Ending.{same_part}
-use Rattle.can_bits.proofs.laws.a_stuffed_part_says_where_it_ends.Goals as goal
-
-pub returns : goal.returns
-returns c f g b d e t s u x y h k w = same_part x y h k w

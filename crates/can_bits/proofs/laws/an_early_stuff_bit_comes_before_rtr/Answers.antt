@@ -1,5 +1,0 @@
-use Rattle.can_bits.proofs.PlaceLaws.{early_means}
-use Rattle.can_bits.proofs.laws.an_early_stuff_bit_comes_before_rtr.Goals as goal
-
-pub returns : goal.returns
-returns c = early_means

@@ -1,5 +1,0 @@
-use Rattle.can_bits.proofs.LineLaws.{lines_agree}
-use Rattle.can_bits.proofs.laws.lines_with_the_same_levels_are_of_one_frame.Goals as goal
-
-pub returns : goal.returns
-returns c = lines_agree

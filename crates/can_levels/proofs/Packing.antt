@@ -1,0 +1,3 @@
+-- Levels kept as one number.
+pub mod Frames
+pub mod Words

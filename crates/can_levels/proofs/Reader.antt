@@ -1,0 +1,2 @@
+-- A reader of one level at a time.
+pub mod Inside

@@ -1,5 +1,0 @@
-use Rattle.can_node.proofs.Contending.Winning.{some_goes_on}
-use Rattle.can_node.proofs.contention_laws.some_frame_goes_on.Goals as goal
-
-pub returns : goal.returns
-returns c = some_goes_on

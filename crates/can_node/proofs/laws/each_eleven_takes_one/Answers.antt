@@ -1,5 +1,0 @@
-use Rattle.can_node.proofs.Waiting.ElevenSteps.{takes}
-use Rattle.can_node.proofs.laws.each_eleven_takes_one.Goals as goal
-
-pub returns : goal.returns
-returns c = takes

@@ -1,5 +1,0 @@
-use Rattle.can_node.proofs.OneCut.RowOnce.{row_once}
-use Rattle.can_node.proofs.laws.pieces_are_told_apart.Goals as goal
-
-pub returns : goal.returns
-returns c = row_once

@@ -1,0 +1,11 @@
+pub mod Bits
+pub mod Contending
+pub mod CutRecords
+pub mod Driven
+pub mod Examples
+pub mod Machine
+pub mod OneCut
+pub mod Reception
+pub mod Requests
+pub mod Transmission
+pub mod Waiting

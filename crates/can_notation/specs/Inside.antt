@@ -1,2 +1,0 @@
--- Definitions of private contracts alone.
-pub mod Rest

@@ -1,7 +1,0 @@
-use Rattle.lemmas.proofs.ChangedInTurn.{Part}
-use Rattle.sja_candump.specs.Inside.Coming.{GoesToEnd}
-use Rattle.sja_candump.proofs.all_bits.finish_all.Given as goal
-
--- so many came to their ends
-abbrev pub invariant-loop-k : goal.invariant-loop-k
-invariant-loop-k l = Part GoesToEnd l.k l.initial.all l.all

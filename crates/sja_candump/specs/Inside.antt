@@ -1,2 +1,0 @@
--- How the writer goes from bit to bit.
-pub mod Coming

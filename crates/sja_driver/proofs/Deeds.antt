@@ -1,3 +1,0 @@
-pub mod FirstSteps
-pub mod Patience
-pub mod Credits

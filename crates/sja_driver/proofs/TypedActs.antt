@@ -1,0 +1,2 @@
+pub mod Patience
+pub mod Credits

@@ -1,3 +1,0 @@
--- How a list of frames is made bit by bit.
-pub mod Walking
-pub mod Passing

@@ -1,0 +1,3 @@
+-- How journals and worlds are kept, and how links go along with a journal (this project's own rule).
+pub mod Codes
+pub mod BoundedHistories

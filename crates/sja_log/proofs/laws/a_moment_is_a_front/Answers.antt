@@ -1,5 +1,0 @@
-use Rattle.sja_driver.proofs.Trace.Fronts.{moment_is}
-use Rattle.sja_log.proofs.laws.a_moment_is_a_front.Goals as goal
-
-pub returns : goal.returns
-returns c = moment_is

@@ -1,5 +1,0 @@
-use Rattle.sja_log.proofs.Trace.AbortsFirst.{abort_first}
-use Rattle.sja_log.proofs.laws.an_abort_stands_right_before_a_bit.Goals as goal
-
-pub returns : goal.returns
-returns c = abort_first

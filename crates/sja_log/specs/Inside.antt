@@ -1,2 +1,0 @@
--- A run in one thread before its first turn.
-pub mod NewDrivers

@@ -1,7 +1,0 @@
-use Rattle.lemmas.proofs.ChangedInTurn.{Part}
-use Rattle.sja_picture.specs.Inside.Resting.{PassesRest}
-use Rattle.sja_picture.proofs.all_rows.pass_rest_all.Given as goal
-
--- so many went past the bits
-abbrev pub invariant-loop-k : goal.invariant-loop-k
-invariant-loop-k l = Part PassesRest l.k l.initial.rows l.rows

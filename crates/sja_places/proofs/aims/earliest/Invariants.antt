@@ -1,7 +1,0 @@
-use Rattle.sja_frames.specs.FrameStories.{values_of}
-use Rattle.sja_places.specs.Inside.Searching.{IsEarliest}
-use Rattle.sja_places.proofs.aims.earliest.Given as goal
-
--- the earliest one so far
-abbrev pub invariant-loop-index : goal.invariant-loop-index
-invariant-loop-index l = IsEarliest (values_of l.found) l.bits l.aims l.index l.first

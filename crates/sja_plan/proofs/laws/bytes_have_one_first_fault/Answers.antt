@@ -1,5 +1,0 @@
-use Rattle.sja_plan.proofs.OneReading.OneFault.{one_fault}
-use Rattle.sja_plan.proofs.laws.bytes_have_one_first_fault.Goals as goal
-
-pub returns : goal.returns
-returns c = one_fault

@@ -1,0 +1,4 @@
+pub mod Requested
+pub mod PlanAnswers
+pub mod BytesRead
+pub mod Denied

@@ -1,5 +1,0 @@
-use Rattle.std.proofs.lemmas.Str.{IsUtf8-from_ascii}
-use Rattle.sja_report.proofs.words.put_ascii.Goals as goal
-
-pub from_utf8_unchecked-requires : goal.from_utf8_unchecked-requires
-from_utf8_unchecked-requires c = IsUtf8-from_ascii c.args.characters.now c.requires

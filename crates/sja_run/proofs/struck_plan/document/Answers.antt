@@ -1,9 +1,0 @@
-use Rattle.std.proofs.Common.{sym, ◌∙◌, inl, inr}
-use Rattle.sja_run.proofs.struck_plan.document.Goals as goal
-
--- the document is too long for its version
-pub returns-in-Err-TooLong-clause-err : goal.returns-in-Err-TooLong-clause-err
-returns-in-Err-TooLong-clause-err c = elim c.in-Err-TooLong.ensures.err [
-  | inl none ↦ let e = sym c.in-Err-TooLong.field-0-is ∙ none in cc
-  | inr long ↦ long.1
-]

@@ -1,3 +1,0 @@
-pub mod Ignoring
-pub mod Refusals
-pub mod Striking

@@ -1,4 +1,0 @@
-use Rattle.sja_serial.proofs.serial_run.SerialRun.one_deed.Given as goal
-
-abbrev pub ghost-deed : goal.ghost-deed
-ghost-deed g a = g.setup

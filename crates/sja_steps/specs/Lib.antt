@@ -1,0 +1,4 @@
+pub mod Ignoring
+pub mod Refusals
+pub mod Striking
+pub mod StepText

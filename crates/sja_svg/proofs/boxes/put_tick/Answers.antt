@@ -1,5 +1,0 @@
-use Rattle.std.proofs.Common.{append_assoc}
-use Rattle.sja_svg.proofs.boxes.put_tick.Goals as goal
-
-pub returns : goal.returns
-returns c = simp append_assoc c.writeln.ensures.bytes

@@ -1,5 +1,0 @@
-pub mod BitSaid
-pub mod DriverSteps
-pub mod Stories
-pub mod SoFar
-pub mod RunsTold

@@ -1,5 +1,0 @@
-use Rattle.sja_trace.proofs.RunsTold.AllRuns.{bits_told}
-use Rattle.sja_trace.proofs.laws.every_bit_of_a_run_is_told.Goals as goal
-
-pub returns : goal.returns
-returns c = bits_told

@@ -1,6 +1,0 @@
-use Rattle.std.proofs.Common.{refl}
-use Rattle.sja_replay.proofs.Listed.Coming.{came_first}
-use Rattle.sja_trace.proofs.node_bits.NodeBits.of.Goals as goal
-
-pub returns : goal.returns
-returns c = ((came_first _ _ c.of.ensures.at c.of.ensures.left, refl), refl)

@@ -1,7 +1,0 @@
-use Rattle.std.proofs.Common.{drop}
-use Rattle.sja_trace.specs.Inside.StepOrder.{Ascends}
-use Rattle.sja_trace.proofs.node_steps.is_in_order.Given as goal
-
--- if those that are left ascend, all of them do
-abbrev pub invariant-loop-one : goal.invariant-loop-one
-invariant-loop-one l = Ascends l.least (drop l.one-index l.done) → Ascends 0 l.done

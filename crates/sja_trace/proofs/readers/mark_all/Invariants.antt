@@ -1,7 +1,0 @@
-use Rattle.sja_trace.specs.Inside.Reading.{Marks}
-use Rattle.lemmas.proofs.ChangedInTurn.{Part}
-use Rattle.sja_trace.proofs.readers.mark_all.Given as goal
-
--- so many went on
-abbrev pub invariant-loop-k : goal.invariant-loop-k
-invariant-loop-k l = Part (Marks l.reader) l.k l.initial.tellers l.tellers

@@ -1,7 +1,0 @@
-use Rattle.sja_trace.specs.Inside.Reading.{PassesFrom}
-use Rattle.lemmas.proofs.ChangedInTurn.{Part}
-use Rattle.sja_trace.proofs.readers.pass_from_all.Given as goal
-
--- so many went on
-abbrev pub invariant-loop-k : goal.invariant-loop-k
-invariant-loop-k l = Part (PassesFrom l.reader) l.k l.initial.tellers l.tellers

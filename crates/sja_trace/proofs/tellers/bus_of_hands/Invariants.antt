@@ -1,8 +1,0 @@
-use Rattle.std.proofs.Common.{◌≡◌, ◌∷◌, drop}
-use Rattle.sja_wire.specs.Wire.{wired}
-use Rattle.sja_trace.specs.Inside.Passing.{hands_driven}
-use Rattle.sja_trace.proofs.tellers.bus_of_hands.Given as goal
-
--- what the nodes so far drive, and what the others drive, is on the bus
-abbrev pub invariant-loop-teller : goal.invariant-loop-teller
-invariant-loop-teller l = wired (l.bus ∷ hands_driven (drop l.teller-index l.tellers)) ≡ wired (hands_driven l.tellers)

@@ -1,5 +1,0 @@
-use Rattle.sja_wave.proofs.BitByBit.Going.{begins}
-use Rattle.sja_wave.proofs.probes.first_of.Goals as goal
-
-pub returns : goal.returns
-returns c = begins c.args.node.now _ _ c.of-probe.ensures c.advance.ensures

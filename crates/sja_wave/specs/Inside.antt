@@ -1,6 +1,0 @@
--- How the writer of a wave goes on from bit to bit.
-pub mod Cursors
-pub mod Meters
-pub mod Probes
-pub mod Resting
-pub mod Changes

@@ -1,6 +1,0 @@
-use Rattle.sja_words.specs.Inside.Table.{app_in, with_rules}
-use Rattle.sja_words.proofs.Requests.Commands.{IsLeft}
-use Rattle.sja_words.proofs.command.command_of.Given as goal
-
-abbrev pub invariant-loop-argument : goal.invariant-loop-argument
-invariant-loop-argument l = IsLeft with_rules l.command l.argument-items l.argument-index (app_in l.row)

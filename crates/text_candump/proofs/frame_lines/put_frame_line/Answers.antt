@@ -1,0 +1,7 @@
+use Rattle.text_report.proofs.WrittenLines.Written.{three_texts}
+use Rattle.text_candump.proofs.frame_lines.put_frame_line.Goals as goal
+
+pub returns : goal.returns
+unfolding lib.Utf8.encode
+returns c =
+    three_texts _ _ _ _ _ _ _ c.in_ok-put_head.ensures c.in_ok-put_frame.ensures c.in_ok-push.ensures.bytes

@@ -1,0 +1,2 @@
+-- How the writer goes from bit to bit.
+pub mod CandumpProgress

@@ -1,0 +1,2 @@
+-- How a list of frames is made bit by bit.
+pub mod Walking

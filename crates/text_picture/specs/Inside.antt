@@ -1,0 +1,2 @@
+-- How a picture is drawn bit by bit.
+pub mod PictureRest

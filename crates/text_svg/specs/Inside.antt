@@ -1,0 +1,2 @@
+pub mod Drawing
+pub mod DrawingProgress

@@ -1,0 +1,4 @@
+pub mod BitSaid
+pub mod DriverSteps
+pub mod Stories
+pub mod SoFar

@@ -1,0 +1,7 @@
+use Rattle.text_trace.specs.TraceRest.{HasRested}
+use Rattle.lemmas.proofs.ChangedInTurn.{Part}
+use Rattle.text_trace.proofs.node_traces.rest_all.Given as goal
+
+-- so many went on
+abbrev pub invariant-loop-k : goal.invariant-loop-k
+invariant-loop-k l = Part (HasRested l.count) l.k l.initial.node_traces l.node_traces
